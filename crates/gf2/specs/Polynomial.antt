@@ -1,9 +1,10 @@
 -- Polynomials over GF(2): lists of coefficients, highest power first, so that the head of n + 1 coefficients is that of x^n.
 -- A divisor x^n + g, whose leading coefficient is 1, is given by its n lower coefficients g.
 -- Assumes nothing.
-use mathlib.Core.Bool.{Bool, true, false, not}
+use mathlib.Core.Bool.{Bool, true, false, not, _||_}
 use mathlib.Core.List.{List, [], _∷_, _++_}
 use Prim.Native.Nat.{ℕ, zero, suc}
+use lib.Dec.{eqb}
 use lib.ListN.{length, replicate}
 
 infixl 40 _⊕_
@@ -14,6 +15,15 @@ true ⊕ b = not b
 
 abbrev pub zeros : ℕ → List Bool
 zeros n = replicate n false
+
+unfoldable pub member : ℕ → List ℕ → Bool
+member p [] = false
+member p (q ∷ qs) = eqb p q || member p qs
+
+-- the n coefficients of the polynomial of degree below n that has the given powers of x
+unfoldable pub poly : ℕ → List ℕ → List Bool
+poly zero ps = []
+poly (suc n) ps = member n ps ∷ poly n ps
 
 -- the sum of two polynomials with as many coefficients; a shorter u counts from the highest power of w
 unfoldable pub add : List Bool → List Bool → List Bool
