@@ -1,0 +1,10 @@
+pub mod Tests
+pub mod Word
+pub mod Rows
+pub mod Incidence
+pub mod EvenRows
+pub mod Distance
+pub mod Decoding
+pub mod Majority
+pub mod Answers
+pub mod Promises

@@ -1,0 +1,82 @@
+-- The promises hold. Assumes nothing.
+use mathlib.Core.Path.{_≡_, refl, sym, ap, ap₂, _∙_, subst}
+use mathlib.Core.Bool.{Bool, true, false}
+use mathlib.Core.Logic.{_≢_}
+use mathlib.Core.List.{List}
+use Prim.Native.Nat.{ℕ, _≤_}
+use native.Mathlib.Omega.{arith}
+use lib.Dec.{eqb}
+use lib.ListN.{length}
+use borrow.Author.Tests.{eqb-true, eqb-false}
+use Rattle.gf2.specs.Polynomial.{add}
+use Rattle.gf2.proofs.Sum.{length-add}
+use Rattle.dsc.specs.Code.{CodeWord, weight, dist}
+use Rattle.dsc.specs.Repair.{protected, wordBytes, decode, repairedTo, refusedWith, answerTo, numberOf, repairOf}
+use Rattle.dsc.specs.Promises.{NoneWithinEight, Demand3, CodeLaws}
+use Rattle.dsc.proofs.Word.{length-word, parity-word, parity-only}
+use Rattle.dsc.proofs.Rows.{word-even}
+use Rattle.dsc.proofs.Incidence.{on-seventeen, share-one}
+use Rattle.dsc.proofs.EvenRows.{even-word}
+use Rattle.dsc.proofs.Distance.{dist-hit, dist-same, distance18, only-one}
+use Rattle.dsc.proofs.Answers.{length-wordBytes, protected-wordBytes, repair-short, repair-decoded, repair-found, repair-none, repairs, repairs-only}
+
+gives-sent-word : (f : List ℕ) (c e : List Bool) → length f ≡ 26 → CodeWord c → length e ≡ 187 → weight e ≤ 8
+    → protected f ≡ add e c → repairOf f ≡ repairedTo c (weight e)
+gives-sent-word f c e h k l w p =
+    let d : dist (protected f) c ≡ weight e = ap (λ r. dist r c) p ∙ dist-hit e c (l ∙ sym (length-word c k)) in
+    repair-found f h c k (omega arith) ∙ ap (repairedTo c) d
+
+never-alike : (c d e h : List Bool) → CodeWord c → CodeWord d → c ≢ d → length e ≡ 187 → length h ≡ 187 → weight e ≤ 8 → weight h ≤ 8
+    → add e c ≢ add h d
+never-alike c d e h kc kd ne le lh we wh same =
+    let hc : dist (add e c) c ≡ weight e = dist-hit e c (le ∙ sym (length-word c kc)) in
+    let hd : dist (add e c) d ≡ weight h = ap (λ r. dist r d) same ∙ dist-hit h d (lh ∙ sym (length-word d kd)) in
+    ne (only-one c d kc kd (add e c) (length-sum e c kc) (omega arith) (omega arith))
+  where
+    length-sum : (e c : List Bool) → CodeWord c → length (add e c) ≡ 187
+    length-sum e c k = length-add e c ∙ length-word c k
+
+short-if-refused : (f : List ℕ) → numberOf (repairOf f) ≡ 1 → length f ≢ 26
+short-if-refused f e h = repairs f .long h e
+
+none-if-refused : (f : List ℕ) → numberOf (repairOf f) ≡ 4 → (length f ≡ 26) × NoneWithinEight (protected f)
+none-if-refused f e = go (eqb (length f) 26) refl
+  where
+    go : (t : Bool) → eqb (length f) 26 ≡ t → (length f ≡ 26) × NoneWithinEight (protected f)
+    go true q =
+        let h = eqb-true (length f) 26 q in
+        (h, λ c k d. let z : _≡_ {A = ℕ} 0 4 = sym (ap numberOf (repair-found f h c k d)) ∙ e in omega arith)
+    go false q = let z : _≡_ {A = ℕ} 1 4 = sym (ap numberOf (repair-short f (eqb-false (length f) 26 q))) ∙ e in absurd (omega arith)
+
+repaired-is-clean : (c : List Bool) → CodeWord c → repairOf (wordBytes c) ≡ repairedTo c 0
+repaired-is-clean c k =
+    let d : dist (protected (wordBytes c)) c ≡ 0 = ap (λ r. dist r c) (protected-wordBytes c (length-word c k)) ∙ dist-same c in
+    repair-found (wordBytes c) (length-wordBytes c) c k (omega arith) ∙ ap (repairedTo c) d
+
+pub demand3 : Demand3
+demand3 =
+    record {
+      answers = repairs;
+      settled = repairs-only;
+      gives-sent-word = gives-sent-word;
+      only-one = λ r c d h kc kd hc hd. only-one c d kc kd r h hc hd;
+      never-alike = never-alike;
+      refused-if-none = λ f h n. ap numberOf (repair-none f h n);
+      none-if-refused = none-if-refused;
+      short-if-refused = short-if-refused;
+      looks-only = λ f g hf hg e.
+          repair-decoded f hf (decode (protected f)) refl ∙ ap (λ r. answerTo r (decode r)) e ∙ sym (repair-decoded g hg (decode (protected g)) refl);
+      repaired-is-clean = repaired-is-clean;
+    }
+
+pub code-laws : CodeLaws
+code-laws =
+    record {
+      distance = distance18;
+      even = word-even;
+      rows-decide = even-word;
+      seventeen-rows = on-seventeen;
+      one-shared-row = share-one;
+      encoded = parity-word;
+      encoded-only = λ m p h l k. parity-only m h p l k;
+    }

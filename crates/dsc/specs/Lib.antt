@@ -1,0 +1,5 @@
+pub mod Code
+pub mod CheckTable
+pub mod Repair
+pub mod Promises
+pub mod Engine

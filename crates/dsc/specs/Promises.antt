@@ -1,0 +1,52 @@
+-- What this crate promises, in the words of demand 3. Each record has one value, proved in proofs/Promises.antt.
+-- Assumes nothing.
+use mathlib.Core.Path.{_≡_}
+use mathlib.Core.Bool.{Bool, false, _&&_}
+use mathlib.Core.Logic.{_≢_}
+use mathlib.Core.List.{List, _++_}
+use Prim.Native.Nat.{ℕ, _≤_, _<_}
+use lib.ListN.{length}
+use Rattle.gf2.specs.Polynomial.{member, add}
+use Rattle.dsc.specs.Code.{CodeWord, count, weight, dist, parityOf}
+use Rattle.dsc.specs.CheckTable.{row, upto, syndrome}
+use Rattle.dsc.specs.Repair.{protected, wordBytes, repairedTo, refusedWith, numberOf, repairOf, Repairs}
+use Rattle.dsc.specs.declared.Repair.{Repair}
+
+-- no code word differs from r in eight places or fewer
+abbrev pub NoneWithinEight : List Bool → Type 0
+NoneWithinEight r = (c : List Bool) → CodeWord c → dist r c ≤ 8 → ⊥
+
+pub record Demand3 : Type 0 where
+  -- whatever bytes arrive, the answer is as demand 3 asks, and no other answer is
+  pub answers : (f : List ℕ) → Repairs f (repairOf f)
+  pub settled : (f : List ℕ) (a : Repair) → Repairs f a → a ≡ repairOf f
+  -- whichever code word c was sent, and whichever eight places e or fewer of it were hit: the sent word and the number of places hit
+  pub gives-sent-word : (f : List ℕ) (c e : List Bool) → length f ≡ 26 → CodeWord c → length e ≡ 187 → weight e ≤ 8
+      → protected f ≡ add e c → repairOf f ≡ repairedTo c (weight e)
+  -- at most one code word lies within eight places
+  pub only-one : (r c d : List Bool) → length r ≡ 187 → CodeWord c → CodeWord d → dist r c ≤ 8 → dist r d ≤ 8 → c ≡ d
+  -- two different sent words, each hit in at most eight places, never arrive alike
+  pub never-alike : (c d e h : List Bool) → CodeWord c → CodeWord d → c ≢ d → length e ≡ 187 → length h ≡ 187 → weight e ≤ 8 → weight h ≤ 8
+      → add e c ≢ add h d
+  -- refusal 4 exactly when there is none, refusal 1 exactly when the frame is not 26 bytes
+  pub refused-if-none : (f : List ℕ) → length f ≡ 26 → NoneWithinEight (protected f) → numberOf (repairOf f) ≡ 4
+  pub none-if-refused : (f : List ℕ) → numberOf (repairOf f) ≡ 4 → (length f ≡ 26) × NoneWithinEight (protected f)
+  pub short-if-refused : (f : List ℕ) → numberOf (repairOf f) ≡ 1 → length f ≢ 26
+  -- only B17 to B203 are looked at
+  pub looks-only : (f g : List ℕ) → length f ≡ 26 → length g ≡ 26 → protected f ≡ protected g → repairOf f ≡ repairOf g
+  -- a word that was repaired needs no repair
+  pub repaired-is-clean : (c : List Bool) → CodeWord c → repairOf (wordBytes c) ≡ repairedTo c 0
+
+-- the code, its check table and its encoder
+pub record CodeLaws : Type 0 where
+  -- two different code words differ in at least 18 places
+  pub distance : (c d : List Bool) → CodeWord c → CodeWord d → c ≢ d → 18 ≤ dist c d
+  -- every code word has an even sum on each row, and only code words have
+  pub even : (c : List Bool) → CodeWord c → (s : ℕ) → s < 273 → syndrome c s ≡ false
+  pub rows-decide : (w : List Bool) → length w ≡ 187 → ((s : ℕ) → s < 273 → syndrome w s ≡ false) → CodeWord w
+  -- each place lies on 17 rows; two different places share exactly one
+  pub seventeen-rows : (p : ℕ) → p < 273 → count (λ s. member p (row s)) (upto 273) ≡ 17
+  pub one-shared-row : (p q : ℕ) → p < 273 → q < 273 → p ≢ q → count (λ s. member p (row s) && member q (row s)) (upto 273) ≡ 1
+  -- a message with its parity is a code word, and the only one with that message
+  pub encoded : (m : List Bool) → length m ≡ 105 → CodeWord (m ++ parityOf m)
+  pub encoded-only : (m p : List Bool) → length m ≡ 105 → length p ≡ 82 → CodeWord (m ++ p) → p ≡ parityOf m
