@@ -14,7 +14,7 @@ use Rattle.gf2.proofs.Sum.{length-add, add-none, add-comm, add-assoc, add-same,
 use Rattle.dsc.specs.Code.{CodeWord, bit, count, weight, dist}
 use Rattle.dsc.specs.CheckTable.{rowsOf, coefficient, syndrome, failures}
 use Rattle.dsc.proofs.Word.{length-word}
-use Rattle.dsc.proofs.Rows.{coefficient-out, coefficient-cons, onRow, syndrome-nil, syndrome-cons, syndrome-false, syndrome-add, word-even, rows-same, shared-one, shared-all}
+use Rattle.dsc.proofs.CheckRows.{coefficient-out, coefficient-cons, onRow, syndrome-nil, syndrome-cons, syndrome-false, syndrome-add, word-even, rows-same, shared-one, shared-all}
 
 -- ---- counts of sums
 

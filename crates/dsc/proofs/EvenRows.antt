@@ -14,7 +14,7 @@ use Rattle.dsc.specs.Code.{powers, generatorLow, CodeWord}
 use Rattle.dsc.specs.CheckTable.{differences, sumOver, syndrome}
 use Rattle.dsc.proofs.Tests.{and-left, and-right, and-false, T-not, below, below-at, allBelow}
 use Rattle.dsc.proofs.Word.{length-low, divided-word}
-use Rattle.dsc.proofs.Rows.{sum-xor, sum-and, sum-none, sum-same, onRow, onRow-turn, syndrome-nil, syndrome-cons, syndrome-false, syndrome-generator}
+use Rattle.dsc.proofs.CheckRows.{sum-xor, sum-and, sum-none, sum-same, onRow, onRow-turn, syndrome-nil, syndrome-cons, syndrome-false, syndrome-generator}
 
 -- ---- sums of several rows: the rows s - a, for the numbers a of a list
 

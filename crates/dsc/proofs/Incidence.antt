@@ -12,7 +12,7 @@ use Rattle.gf2.specs.Polynomial.{_⊕_, member}
 use Rattle.dsc.specs.Code.{count, bit}
 use Rattle.dsc.specs.CheckTable.{upto, differences, row, rowsOf, sumOver}
 use Rattle.dsc.proofs.Tests.{and-left, and-right, T-not, T-same, eqb-same, below, below-at, allBelow}
-use Rattle.dsc.proofs.Rows.{sum-map, sum-same, differences-below, onRow, onRow-difference, isDifference, rows-same, shared-one}
+use Rattle.dsc.proofs.CheckRows.{sum-map, sum-same, differences-below, onRow, onRow-difference, isDifference, rows-same, shared-one}
 
 -- ---- counts over 0 .. n - 1
 

@@ -1,6 +1,6 @@
 pub mod Tests
 pub mod Word
-pub mod Rows
+pub mod CheckRows
 pub mod Incidence
 pub mod EvenRows
 pub mod Distance
@@ -8,3 +8,7 @@ pub mod Decoding
 pub mod Majority
 pub mod Answers
 pub mod Promises
+pub mod TableRule
+pub mod RowSums
+pub mod Steps
+pub mod Octets

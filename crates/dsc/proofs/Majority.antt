@@ -16,7 +16,7 @@ use Rattle.dsc.specs.CheckTable.{coefficient, syndrome, failures}
 use Rattle.dsc.specs.Repair.{corrected, beyond, decode}
 use Rattle.dsc.specs.Engine.{flipped}
 use Rattle.dsc.proofs.Word.{length-word, word-tested, tested-word}
-use Rattle.dsc.proofs.Rows.{syndrome-add, word-even, rows-same}
+use Rattle.dsc.proofs.CheckRows.{syndrome-add, word-even, rows-same}
 use Rattle.dsc.proofs.Distance.{Hits, hits}
 use Rattle.dsc.proofs.Decoding.{decode-found, decode-none}
 

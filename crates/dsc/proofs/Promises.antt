@@ -14,7 +14,7 @@ use Rattle.dsc.specs.Code.{CodeWord, weight, dist}
 use Rattle.dsc.specs.Repair.{protected, wordBytes, decode, repairedTo, refusedWith, answerTo, numberOf, repairOf}
 use Rattle.dsc.specs.Promises.{NoneWithinEight, Demand3, CodeLaws}
 use Rattle.dsc.proofs.Word.{length-word, parity-word, parity-only}
-use Rattle.dsc.proofs.Rows.{word-even}
+use Rattle.dsc.proofs.CheckRows.{word-even}
 use Rattle.dsc.proofs.Incidence.{on-seventeen, share-one}
 use Rattle.dsc.proofs.EvenRows.{even-word}
 use Rattle.dsc.proofs.Distance.{dist-hit, dist-same, distance18, only-one}

@@ -10,7 +10,7 @@ use Rattle.gf2.specs.Polynomial.{member, add}
 use Rattle.dsc.specs.Code.{CodeWord, count, weight, dist, parityOf}
 use Rattle.dsc.specs.CheckTable.{row, upto, syndrome}
 use Rattle.dsc.specs.Repair.{protected, wordBytes, repairedTo, refusedWith, numberOf, repairOf, Repairs}
-use Rattle.dsc.specs.declared.Repair.{Repair}
+use Rattle.dsc.specs.declared.Answer.{Answer}
 
 -- no code word differs from r in eight places or fewer
 abbrev pub NoneWithinEight : List Bool → Type 0
@@ -19,7 +19,7 @@ NoneWithinEight r = (c : List Bool) → CodeWord c → dist r c ≤ 8 → ⊥
 pub record Demand3 : Type 0 where
   -- whatever bytes arrive, the answer is as demand 3 asks, and no other answer is
   pub answers : (f : List ℕ) → Repairs f (repairOf f)
-  pub settled : (f : List ℕ) (a : Repair) → Repairs f a → a ≡ repairOf f
+  pub settled : (f : List ℕ) (a : Answer) → Repairs f a → a ≡ repairOf f
   -- whichever code word c was sent, and whichever eight places e or fewer of it were hit: the sent word and the number of places hit
   pub gives-sent-word : (f : List ℕ) (c e : List Bool) → length f ≡ 26 → CodeWord c → length e ≡ 187 → weight e ≤ 8
       → protected f ≡ add e c → repairOf f ≡ repairedTo c (weight e)

@@ -13,7 +13,7 @@ use Rattle.gf2.specs.Polynomial.{zeros}
 use Rattle.dsc.specs.Code.{CodeWord, dist, isCodeWord}
 use Rattle.dsc.specs.declared.Outcome.{Outcome}
 use Rattle.dsc.specs.declared.Outcome.the-variants as outcome
-use Rattle.dsc.specs.declared.Repair.{Repair}
+use Rattle.dsc.specs.declared.Answer.{Answer}
 
 -- ---- the protected part of a frame's bytes
 
@@ -48,23 +48,23 @@ decode r = firstCodeWord (ball 8 r)
 -- ---- the answer
 
 -- repaired to c, in n places
-abbrev pub repairedTo : List Bool → ℕ → Repair
+abbrev pub repairedTo : List Bool → ℕ → Answer
 repairedTo c n = record { outcome = outcome.Repaired n; word = wordBytes c }
 
 -- a refusal: its number, and no word
-abbrev pub refusedWith : ℕ → Repair
+abbrev pub refusedWith : ℕ → Answer
 refusedWith n = record { outcome = outcome.Refused n; word = replicate 26 0 }
 
-unfoldable pub answerTo : List Bool → Decoded → Repair
+unfoldable pub answerTo : List Bool → Decoded → Answer
 answerTo r (corrected c) = repairedTo c (dist r c)
 answerTo r beyond = refusedWith 4
 
 -- what the box answers, for any bytes
-unfoldable pub repairOf : List ℕ → Repair
+unfoldable pub repairOf : List ℕ → Answer
 repairOf f = cond (eqb (length f) 26) (answerTo (protected f) (decode (protected f))) (refusedWith 1)
 
 -- document 01's number of an answer, 0 where it was repaired, and the number of places repaired
-abbrev pub numberOf : Repair → ℕ
+abbrev pub numberOf : Answer → ℕ
 numberOf a = number (a .outcome)
   where
     number : Outcome → ℕ
@@ -73,7 +73,7 @@ numberOf a = number (a .outcome)
 
 -- ---- demand 3, of the answer a to the bytes f
 
-pub record Repairs (f : List ℕ) (a : Repair) : Type 0 where
+pub record Repairs (f : List ℕ) (a : Answer) : Type 0 where
   -- 1 exactly if the frame is not 26 bytes
   pub short : length f ≢ 26 → a ≡ refusedWith 1
   pub long : length f ≡ 26 → numberOf a ≢ 1

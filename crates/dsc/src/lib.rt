@@ -1,4 +1,13 @@
-// probe
+// The repair of the protected part, and its encoder: the (187,105) difference-set cyclic code.
+ghost use mathlib.Core.Path.{_≡_};
+ghost use Prim.Native.Nat.{ℕ, _+_};
+ghost use lib.ListN.{length};
+ghost use Rattle.dsc.specs.Repair.{refusedWith, repairedTo, answerTo, protected, decode, repairOf, Repairs};
+
+mod check_table;
+mod rows;
+mod words;
+
 // What the repair answers: the number of places in which the code word differs from the received bits, or the refusal's number.
 pub enum Outcome {
     Repaired(u8),
@@ -6,7 +15,58 @@ pub enum Outcome {
 }
 
 // The outcome, with the repaired word beside it: 26 bytes that hold B17 to B203 at their places and 0 elsewhere, all 0 on a refusal.
-pub struct Repair {
+pub struct Answer {
     pub outcome: Outcome,
     pub word: [u8; 26],
+}
+
+fn refused(number: u8) -> Answer
+    ensures { λ a. ⌜ a ≡ refusedWith number ⌝ }
+{
+    Answer {
+        outcome: Outcome::Refused(number),
+        word: [0; 26],
+    }
+}
+
+fn repaired(word: &[bool], places: u8) -> Answer
+    requires { ⌜ length (now word) ≡ 187 ⌝ }
+    ensures { λ a. ⌜ a ≡ repairedTo (now (word .entry)) places ⌝ }
+{
+    let word = words::word_bytes(word);
+    Answer {
+        outcome: Outcome::Repaired(places),
+        word,
+    }
+}
+
+// The repair of 187 received bits.
+fn repair_word(received: &[bool]) -> Answer
+    requires { ⌜ length (now received) ≡ 187 ⌝ }
+    ensures { λ a. ⌜ a ≡ answerTo (now (received .entry)) (decode (now (received .entry))) ⌝ }
+{
+    let t = check_table::table();
+    if rows::is_code_word(&t, received) {
+        return repaired(received, 0);
+    }
+    let w = rows::majority(&t, received);
+    if !rows::is_code_word(&t, &w) {
+        return refused(4);
+    }
+    let places = words::distance(received, &w);
+    if 8 < places {
+        return refused(4);
+    }
+    repaired(&w, places)
+}
+
+// The repair asked for alone: of any bytes, it looks only at B17 to B203, and refuses 1, then 4.
+pub fn repair(frame: &[u8]) -> Answer
+    ensures { λ a. ⌜ Repairs (now (frame .entry)) a × (a ≡ repairOf (now (frame .entry))) ⌝ }
+{
+    if frame.len() != 26 {
+        return refused(1);
+    }
+    let received = words::received(frame);
+    repair_word(&received)
 }

@@ -1,0 +1,58 @@
+-- `dsc::rows::row_sums` meets its contract. Assumes nothing.
+use borrow.Author.Needs.{needs}
+use mathlib.Core.Path.{_≡_}
+use mathlib.Core.Bool.{false}
+use Prim.Native.Nat.{_≤_, _-_}
+use native.Mathlib.Omega.{arith}
+use lib.ListN.{length}
+use Rattle.dsc.specs.Engine.{rowSum}
+use Rattle.dsc.proofs.Steps.{Filled, filled-next}
+use Rattle.dsc.proofs.rows.row_sums.Statement.{statement}
+use Rattle.dsc.proofs.rows.row_sums.Tie as tie
+
+abbrev Inv-loop : tie.InvT-loop
+Inv-loop t c f₀ s₀ f s = (s ≤ 273) × (length f ≡ 273) × Filled false (rowSum c) s f
+
+abbrev μ-loop : tie.MeasureT-loop
+μ-loop t c f₀ s₀ f s = 273 - s
+
+loop-holds : tie.Need-loop-holds Inv-loop μ-loop
+loop-holds c = (omega arith, omega arith, λ k h. absurd (omega arith))
+
+row-sum-requires : tie.Need-row-sum-requires Inv-loop μ-loop
+row-sum-requires c κs = search needs
+
+array-write-f : tie.Need-array-write-f Inv-loop μ-loop
+array-write-f c = search needs
+
+add-s : tie.Need-add-s Inv-loop μ-loop
+add-s c = search needs
+
+loop-less : tie.Need-loop-less Inv-loop μ-loop
+loop-less c = search needs
+
+loop-again : tie.Need-loop-again Inv-loop μ-loop
+loop-again c =
+    let a = c .before .before in
+    let w = a .before .before .before .args .c .now in (
+      omega arith,
+      search needs,
+      filled-next false (rowSum w) (a .loop .s) (a .loop .f) (c .row-sum .result) (omega arith) (c .row-sum .ensures) (a .loop .inv .2),
+    )
+
+returns : tie.Need-returns Inv-loop μ-loop
+returns c = record { size = c .before .loop .inv .1; each = λ s h. c .before .loop .inv .2 s (omega arith) }
+
+pub row-sums-spec : {M : Type 1} → statement M
+row-sums-spec =
+    tie.close
+    (tie.spec
+    Inv-loop
+    μ-loop
+    loop-holds
+    row-sum-requires
+    array-write-f
+    add-s
+    loop-less
+    loop-again
+    returns)
