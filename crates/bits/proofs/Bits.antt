@@ -8,15 +8,15 @@ use native.Mathlib.Nat.{mod-eq-of-lt, le-of-suc-le-suc, not-suc-le-zero, lt-of-l
 use native.Mathlib.Numerals.{one-add, add-one}
 use native.Mathlib.Omega.{arith}
 use lib.Dec.{eqb}
-use lib.ListN.{length, getD, set, take, drop, replicate, length-set, length-append, length-take, length-drop, take-append-drop, List·getD-append}
-use lib.Seq.{take-at, drop-at, getD-append-add, length-take-le, set-append-left}
-use lib.Pow.{pow-mono, pow-add, high, low, mod-pow-add}
+use lib.ListN.{length, getD, set, take, drop, replicate, length-append, length-take, length-drop, take-append-drop, List·getD-append}
+use lib.Seq.{take-at, drop-at, getD-append-add, length-take-le, set-split, set-getD}
+use lib.Pow.{pow-mono, pow-add, shr-shr, high, low, mod-pow-add}
 use Rattle.bits.specs.Bits.{digit, odd, value, bitsOf, bits, bytes, Bytes}
 
-digit-lt : (b : Bool) → digit b < 2
-unfolding digit
-digit-lt true = omega arith
-digit-lt false = omega arith
+-- six in three bits, the most significant first
+six : bitsOf 3 6 ≡ true ∷ true ∷ false ∷ []
+unfolding bitsOf odd
+six = refl
 
 odd-digit : (b : Bool) → odd (digit b) ≡ b
 unfolding odd digit
@@ -32,10 +32,6 @@ digit-small (suc (suc n)) h = absurd (not-suc-le-zero (le-of-suc-le-suc (le-of-s
 pub digit-odd : (n : ℕ) → digit (odd n) ≡ n % 2
 unfolding odd
 digit-odd n = digit-small (n % 2) (omega arith)
-
-pub odd-mod : (n : ℕ) → odd (n % 2) ≡ odd n
-unfolding odd
-odd-mod n = let e : n % 2 % 2 ≡ n % 2 = omega arith in ap (λ (k : ℕ). eqb k 1) e
 
 value-cons : (b : Bool) (bs : List Bool) → value (b ∷ bs) ≡ digit b * 2 ^ length bs + value bs
 unfolding value
@@ -101,6 +97,26 @@ pub value-zeros : (n : ℕ) → value (replicate n false) ≡ 0
 unfolding value digit
 value-zeros zero = refl
 value-zeros (suc n) = omega (arith, value-zeros n)
+
+-- the a high bits and the b low bits of a number
+pub bitsOf-add : (a b v : ℕ) → bitsOf (a + b) v ≡ bitsOf a (v / 2 ^ b) ++ bitsOf b v
+unfolding bitsOf
+bitsOf-add zero b v = let e : 0 + b ≡ b = omega arith in ap (λ (k : ℕ). bitsOf k v) e
+bitsOf-add (suc a) b v =
+    let e : suc a + b ≡ suc (a + b) = omega arith in
+    let f : b + a ≡ a + b = omega arith in
+    ap (λ (k : ℕ). bitsOf k v) e
+    ∙ ap₂ (λ (x : Bool) (l : List Bool). x ∷ l) (sym (ap odd (shr-shr v b a ∙ ap (λ (k : ℕ). v / 2 ^ k) f))) (bitsOf-add a b v)
+
+-- n bits from the middle of a number's bits
+pub take-drop-bitsOf : (w v a n : ℕ) → a + n ≤ w → take n (drop a (bitsOf w v)) ≡ bitsOf n (v / 2 ^ (w - a - n))
+take-drop-bitsOf w v a n h =
+    let t : ℕ = w - a - n in
+    let e : w ≡ a + (n + t) = omega arith in
+    ap (λ (k : ℕ). take n (drop a (bitsOf k v))) e
+    ∙ ap (λ (l : List Bool). take n (drop a l)) (bitsOf-add a (n + t) v)
+    ∙ ap (take n) (drop-at (bitsOf a (v / 2 ^ (n + t))) (bitsOf (n + t) v) a (length-bitsOf a (v / 2 ^ (n + t))) ∙ bitsOf-add n t v)
+    ∙ take-at (bitsOf n (v / 2 ^ t)) (bitsOf t v) n (length-bitsOf n (v / 2 ^ t))
 
 pub getD-bitsOf : (w v r : ℕ) → r < w → getD (bitsOf w v) r false ≡ odd (v / 2 ^ (w - suc r))
 unfolding bitsOf
@@ -176,59 +192,10 @@ bits-drop n s h =
     ap (drop (8 * n)) (ap bits (sym (take-append-drop n s)) ∙ bits-append (take n s) (drop n s))
     ∙ drop-at (bits (take n s)) (bits (drop n s)) (8 * n) l
 
-pub value-set : (bs : List Bool) (r : ℕ) (b : Bool) → r < length bs
-    → value (set bs r b) + digit (getD bs r false) * 2 ^ (length bs - suc r) ≡ value bs + digit b * 2 ^ (length bs - suc r)
-value-set [] r b h = absurd (not-suc-le-zero h)
-value-set (a ∷ bs) zero b h =
-    let e : suc (length bs) - 1 ≡ length bs = omega arith in
-    rw (value-cons b bs, value-cons a bs, e) (omega arith)
-value-set (a ∷ bs) (suc r) b h =
-    let e : suc (length bs) - suc (suc r) ≡ length bs - suc r = omega arith in
-    rw (value-cons a (set bs r b), value-cons a bs, e, length-set) (omega (arith, value-set bs r b (le-of-suc-le-suc h)))
-
-pub part-le : (bs : List Bool) (r : ℕ) → r < length bs → digit (getD bs r false) * 2 ^ (length bs - suc r) ≤ value bs
-unfolding digit
-part-le bs r h = omega (arith, value-set bs r false h)
-
-set-append-add : (xs ys : List Bool) (n : ℕ) (a : Bool) → set (xs ++ ys) (length xs + n) a ≡ xs ++ set ys n a
-set-append-add [] ys n a = ap (λ (k : ℕ). set ys k a) (omega arith)
-set-append-add (x ∷ xs) ys n a =
-    let e : suc (length xs) + n ≡ suc (length xs + n) = omega arith in
-    ap (λ (k : ℕ). set (x ∷ (xs ++ ys)) k a) e ∙ ap (λ (l : List Bool). x ∷ l) (set-append-add xs ys n a)
-
-pub set-bits : (s : List ℕ) (q r : ℕ) (b : Bool) → r < 8 → q < length s
-    → bits (set s q (value (set (bitsOf 8 (getD s q 0)) r b))) ≡ set (bits s) (8 * q + r) b
+-- one byte of the row replaced
+pub bits-set : (s : List ℕ) (q y : ℕ) → q < length s → bits (set s q y) ≡ bits (take q s) ++ (bitsOf 8 y ++ bits (drop (suc q) s))
 unfolding bits
-set-bits [] q r b h k = absurd (not-suc-le-zero k)
-set-bits (x ∷ s) zero r b h k =
-    let l : length (set (bitsOf 8 x) r b) ≡ 8 = length-set (bitsOf 8 x) r b ∙ length-bitsOf 8 x in
-    let t : bitsOf 8 (value (set (bitsOf 8 x) r b)) ≡ set (bitsOf 8 x) r b = subst (λ (n : ℕ). bitsOf n (value (set (bitsOf 8 x) r b)) ≡ set (bitsOf 8 x) r b) l (bitsOf-value (set (bitsOf 8 x) r b)) in
-    ap (λ (y : List Bool). y ++ bits s) t
-    ∙ sym (set-append-left (bitsOf 8 x) (bits s) r b (rw length-bitsOf h))
-    ∙ ap (λ (n : ℕ). set (bitsOf 8 x ++ bits s) n b) (omega arith)
-set-bits (x ∷ s) (suc q) r b h k =
-    ap (λ (y : List Bool). bitsOf 8 x ++ y) (set-bits s q r b h (le-of-suc-le-suc k))
-    ∙ sym (set-append-add (bitsOf 8 x) (bits s) (8 * q + r) b)
-    ∙ ap (λ (n : ℕ). set (bitsOf 8 x ++ bits s) n b) (rw length-bitsOf (omega arith))
+bits-set s q y h = ap bits (set-split s q y h) ∙ bits-append (take q s) (y ∷ drop (suc q) s)
 
--- what a store of bit r of a byte x computes: take the old bit away, put the new one
-pub record Stored (x r b p m : ℕ) : Type 0 where
-  pub least : p * m ≤ x
-  pub is : x - p * m + b * m ≡ value (set (bitsOf 8 x) r (odd b))
-  pub small : x - p * m + b * m < 256
-
-pub stored : (x r b p m : ℕ) → x < 256 → r < 8 → b < 2 → p ≡ digit (odd (x / 2 ^ (7 - r))) → m ≡ 2 ^ (7 - r) → Stored x r b p m
-stored x r b p m hx hr hb ep em =
-    let bs : List Bool = bitsOf 8 x in
-    let l : length bs ≡ 8 = length-bitsOf 8 x in
-    let h : r < length bs = rw l hr in
-    let n : length bs - suc r ≡ 7 - r = omega arith in
-    let o : digit (getD bs r false) ≡ p = ap digit (getD-bitsOf 8 x r hr ∙ ap (λ (k : ℕ). odd (x / 2 ^ k)) (omega arith)) ∙ sym ep in
-    let v : value bs ≡ x = value-bitsOf-fit 8 x hx in
-    let d : digit (odd b) ≡ b = digit-odd b ∙ omega arith in
-    let t : 2 ^ (length bs - suc r) ≡ m = ap (λ (k : ℕ). 2 ^ k) n ∙ sym em in
-    let ls : p * m ≤ x = rw (o, t, v) at (part-le bs r h) in
-    let e : value (set bs r (odd b)) + p * m ≡ x + b * m = rw (o, t, v, d) at (value-set bs r (odd b) h) in
-    let i : x - p * m + b * m ≡ value (set bs r (odd b)) = omega arith in
-    let s : value (set bs r (odd b)) < 2 ^ 8 = rw (length-set, l) at (value-lt (set bs r (odd b))) in
-    record { least = ls; is = i; small = omega arith }
+pub bits-split : (s : List ℕ) (q : ℕ) → q < length s → bits s ≡ bits (take q s) ++ (bitsOf 8 (getD s q 0) ++ bits (drop (suc q) s))
+bits-split s q h = ap bits (sym (set-getD s q 0)) ∙ bits-set s q (getD s q 0) h

@@ -1,7 +1,7 @@
 -- Laws of rows of fields.
 -- Assumes nothing.
 use mathlib.Core.Path.{_≡_, refl, sym, ap, ap₂, _∙_, subst}
-use mathlib.Core.Bool.{Bool, true, false, _&&_, false≢true, and-eq-true-iff}
+use mathlib.Core.Bool.{Bool, true, false, _&&_, false≢true, and-eq-true-iff, and-false}
 use mathlib.Core.List.{List, [], _∷_, _++_, append-assoc, append-nil}
 use Prim.Native.Nat.{ℕ, zero, suc, _+_, _*_, _^_, _≤_, _<_}
 use native.Mathlib.Nat.{lt-of-lt-of-le, suc-inj}
@@ -15,6 +15,8 @@ use lib.Pow.{pow-mono}
 use Rattle.bits.specs.Bits.{value, bitsOf, bits, bytes, Bytes}
 use Rattle.bits.specs.Layout.{pack, unpack, sum, Fit, fitb, Narrow, narrowb, Layout, layoutb}
 use Rattle.bits.proofs.Bits.{length-bitsOf, value-lt, value-take-lt, bitsOf-value, value-bitsOf-fit, length-bits, bytes-bits, bits-bytes}
+
+-- ---- both round trips
 
 pub length-pack : (ws vs : List ℕ) → length (pack ws vs) ≡ sum ws
 unfolding pack sum
@@ -39,6 +41,12 @@ pack-unpack (w ∷ ws) bs e =
     let t : bitsOf w (value (take w bs)) ≡ take w bs = subst (λ (k : ℕ). bitsOf k (value (take w bs)) ≡ take w bs) l (bitsOf-value (take w bs)) in
     rw (t, pack-unpack ws (drop w bs) (length-drop w bs ∙ omega arith)) (take-append-drop w bs)
 
+pub length-fit : (ws vs : List ℕ) → Fit ws vs → length vs ≡ length ws
+length-fit [] [] f = refl
+length-fit [] (v ∷ vs) f = absurd f
+length-fit (w ∷ ws) [] f = absurd f
+length-fit (w ∷ ws) (v ∷ vs) f = ap suc (length-fit ws vs (f .1))
+
 pub fit-unpack : (ws : List ℕ) (bs : List Bool) → Fit ws (unpack ws bs)
 unfolding unpack
 fit-unpack [] bs = tt
@@ -50,29 +58,29 @@ unfolding unpack
 length-unpack [] bs = refl
 length-unpack (w ∷ ws) bs = ap suc (length-unpack ws (drop w bs))
 
--- a value that was read fits its place
+-- a value that was read fits its field
 pub unpack-lt : (ws : List ℕ) (bs : List Bool) (i : ℕ) → getD (unpack ws bs) i 0 < 2 ^ getD ws i 0
 unfolding unpack
 unpack-lt [] bs i = omega arith
 unpack-lt (w ∷ ws) bs zero = value-take-lt w bs
 unpack-lt (w ∷ ws) bs (suc i) = unpack-lt ws (drop w bs) i
 
+-- ---- rows of whole bytes
+
 pub unpack-bytes-pack : (ws vs : List ℕ) (n : ℕ) → sum ws ≡ 8 * n → Fit ws vs → unpack ws (bits (bytes n (pack ws vs))) ≡ vs
 unpack-bytes-pack ws vs n e f = rw (bits-bytes n (pack ws vs) (length-pack ws vs ∙ e)) (unpack-pack ws vs f)
 
-pub bytes-pack-unpack : (ws s : List ℕ) (n : ℕ) → sum ws ≡ 8 * n → length s ≡ n → Bytes s → bytes n (pack ws (unpack ws (bits s))) ≡ s
-bytes-pack-unpack ws s n e l h =
-    rw (pack-unpack ws (bits s) (length-bits s ∙ ap (λ (k : ℕ). 8 * k) l ∙ sym e))
-    (ap (λ (k : ℕ). bytes k (bits s)) (sym l) ∙ bytes-bits s h)
+pub bytes-pack-unpack : (ws s : List ℕ) → sum ws ≡ 8 * length s → Bytes s → bytes (length s) (pack ws (unpack ws (bits s))) ≡ s
+bytes-pack-unpack ws s e h = ap (bytes (length s)) (pack-unpack ws (bits s) (length-bits s ∙ sym e)) ∙ bytes-bits s h
 
--- a whole row that write_all fills
+-- a row of bytes that the fields fill, after `write_all`
 pub packed-bytes : (ws vs s t : List ℕ) (n : ℕ) → sum ws ≡ 8 * n → length s ≡ n → length t ≡ length s → Bytes t
     → bits t ≡ pack ws vs ++ drop (sum ws) (bits s) → t ≡ bytes n (pack ws vs)
 packed-bytes ws vs s t n e l k h p =
     sym (bytes-bits t h) ∙ ap₂ (λ (m : ℕ) (b : List Bool). bytes m b) (k ∙ l)
     (p ∙ ap (λ (r : List Bool). pack ws vs ++ r) (drop-of-length-le (bits s) {i = sum ws} (omega (arith, length-bits s))) ∙ append-nil (pack ws vs))
 
--- the test that each value fits its place
+-- ---- the tests
 pub fitb-fit : (ws vs : List ℕ) → fitb ws vs ≡ true → Fit ws vs
 fitb-fit [] [] e = tt
 fitb-fit [] (v ∷ vs) e = absurd (false≢true e)
@@ -98,10 +106,46 @@ layoutb-layout ws n e =
     let k = and-eq-true-iff (leb (sum ws) (8 * n)) (ltb (sum ws) 65536) .0 (h .1) in
     record { narrow = narrowb-narrow ws (h .0); room = leb-true (sum ws) (8 * n) (k .0); short = ltb-true (sum ws) 65536 (k .1) }
 
+-- ---- a layout in two parts
+
+pub sum-append : (ws xs : List ℕ) → sum (ws ++ xs) ≡ sum ws + sum xs
+unfolding sum
+sum-append [] xs = omega arith
+sum-append (w ∷ ws) xs = omega (arith, sum-append ws xs)
+
+pub unpack-append : (ws xs : List ℕ) (bs : List Bool) → unpack (ws ++ xs) bs ≡ unpack ws bs ++ unpack xs (drop (sum ws) bs)
+unfolding unpack sum
+unpack-append [] xs bs = refl
+unpack-append (w ∷ ws) xs bs =
+    ap (λ (l : List ℕ). value (take w bs) ∷ l) (unpack-append ws xs (drop w bs) ∙ rw drop-drop)
+
+pub pack-append : (ws xs vs us : List ℕ) → length vs ≡ length ws → pack (ws ++ xs) (vs ++ us) ≡ pack ws vs ++ pack xs us
+unfolding pack
+pack-append [] xs [] us e = refl
+pack-append [] xs (v ∷ vs) us e = absurd (omega arith)
+pack-append (w ∷ ws) xs [] us e = absurd (omega arith)
+pack-append (w ∷ ws) xs (v ∷ vs) us e =
+    ap (λ (l : List Bool). bitsOf w v ++ l) (pack-append ws xs vs us (suc-inj e)) ∙ sym (append-assoc (bitsOf w v) (pack ws vs) (pack xs us))
+
+pub fit-append : (ws xs vs us : List ℕ) → Fit ws vs → Fit xs us → Fit (ws ++ xs) (vs ++ us)
+fit-append [] xs [] us f g = g
+fit-append [] xs (v ∷ vs) us f g = absurd f
+fit-append (w ∷ ws) xs [] us f g = absurd f
+fit-append (w ∷ ws) xs (v ∷ vs) us f g = (f .0, fit-append ws xs vs us (f .1) g)
+
+-- ---- one field more
+
 pub sum-snoc : (ws : List ℕ) (w : ℕ) → sum (ws ++ (w ∷ [])) ≡ sum ws + w
 unfolding sum
-sum-snoc [] w = omega arith
-sum-snoc (x ∷ ws) w = omega (arith, sum-snoc ws w)
+sum-snoc ws w = omega (arith, sum-append ws (w ∷ []))
+
+pub unpack-snoc : (ws : List ℕ) (w : ℕ) (bs : List Bool) → unpack (ws ++ (w ∷ [])) bs ≡ unpack ws bs ++ (value (take w (drop (sum ws) bs)) ∷ [])
+unfolding unpack
+unpack-snoc ws w bs = unpack-append ws (w ∷ []) bs
+
+pub pack-snoc : (ws vs : List ℕ) (w v : ℕ) → length vs ≡ length ws → pack (ws ++ (w ∷ [])) (vs ++ (v ∷ [])) ≡ pack ws vs ++ bitsOf w v
+unfolding pack
+pack-snoc ws vs w v e = pack-append ws (w ∷ []) vs (v ∷ []) e ∙ ap (λ (l : List Bool). pack ws vs ++ l) (append-nil (bitsOf w v))
 
 pub sum-take : (ws : List ℕ) (j : ℕ) → j < length ws → sum (take (j + 1) ws) ≡ sum (take j ws) + getD ws j 0
 sum-take ws j h = rw (add-one, take-suc ws j 0) (sum-snoc (take j ws) (getD ws j 0))
@@ -116,21 +160,7 @@ sum-le (w ∷ ws) (suc j) = omega (arith, sum-le ws j)
 pub sum-next : (ws : List ℕ) (j : ℕ) → j < length ws → sum (take j ws) + getD ws j 0 ≤ sum ws
 sum-next ws j h = omega (arith, sum-take ws j h, sum-le ws (j + 1))
 
-pub unpack-snoc : (ws : List ℕ) (w : ℕ) (bs : List Bool) → unpack (ws ++ (w ∷ [])) bs ≡ unpack ws bs ++ (value (take w (drop (sum ws) bs)) ∷ [])
-unfolding unpack sum
-unpack-snoc [] w bs = refl
-unpack-snoc (x ∷ ws) w bs =
-    ap (λ (l : List ℕ). value (take x bs) ∷ l) (unpack-snoc ws w (drop x bs) ∙ rw drop-drop)
-
-pub pack-snoc : (ws vs : List ℕ) (w v : ℕ) → length ws ≡ length vs → pack (ws ++ (w ∷ [])) (vs ++ (v ∷ [])) ≡ pack ws vs ++ bitsOf w v
-unfolding pack
-pack-snoc [] [] w v e = append-nil (bitsOf w v)
-pack-snoc [] (y ∷ vs) w v e = absurd (omega arith)
-pack-snoc (x ∷ ws) [] w v e = absurd (omega arith)
-pack-snoc (x ∷ ws) (y ∷ vs) w v e =
-    ap (λ (l : List Bool). bitsOf x y ++ l) (pack-snoc ws vs w v (suc-inj e)) ∙ sym (append-assoc (bitsOf x y) (pack ws vs) (bitsOf w v))
-
--- a field laid right after what has been laid
+-- a field right after the fields that are in place
 pub paste-after : (p l : List Bool) (k w v : ℕ) → length p ≡ k → k + w ≤ length l
     → paste (p ++ drop k l) k (bitsOf w v) w ≡ (p ++ bitsOf w v) ++ drop (k + w) l
 paste-after p l k w v e h =
@@ -153,13 +183,21 @@ pub pack-next : (ws vs : List ℕ) (l : List Bool) (j : ℕ) → j < length ws �
     ≡ pack (take (j + 1) ws) (take (j + 1) vs) ++ drop (sum (take (j + 1) ws)) l
 pack-next ws vs l j h e r =
     let hv : j < length vs = omega arith in
-    let le : length (take j ws) ≡ length (take j vs) = length-take-le j ws (omega arith) ∙ sym (length-take-le j vs (omega arith)) in
+    let le : length (take j vs) ≡ length (take j ws) = length-take-le j vs (omega arith) ∙ sym (length-take-le j ws (omega arith)) in
     rw (sum-take ws j h, add-one, take-suc ws j 0 h, take-suc vs j 0 hv, pack-snoc (take j ws) (take j vs) (getD ws j 0) (getD vs j 0) le)
     (paste-after (pack (take j ws) (take j vs)) l (sum (take j ws)) (getD ws j 0) (getD vs j 0) (length-pack (take j ws) (take j vs))
     (omega (arith, sum-take ws j h, sum-le ws (j + 1))))
 
-pub fitb-next : (ws vs : List ℕ) (j : ℕ) → j < length ws → length vs ≡ length ws
-    → fitb (drop j ws) (drop j vs) ≡ (ltb (getD vs j 0) (2 ^ getD ws j 0) && fitb (drop (j + 1) ws) (drop (j + 1) vs))
-fitb-next ws vs j h e =
+-- the wrong number of values
+pub fitb-length : (ws vs : List ℕ) → (length vs ≡ length ws → ⊥) → fitb ws vs ≡ false
+fitb-length [] [] h = absurd (h refl)
+fitb-length [] (v ∷ vs) h = refl
+fitb-length (w ∷ ws) [] h = refl
+fitb-length (w ∷ ws) (v ∷ vs) h =
+    ap (λ (t : Bool). ltb v (2 ^ w) && t) (fitb-length ws vs (λ e. h (ap suc e))) ∙ and-false (ltb v (2 ^ w))
+
+pub fitb-next : (ws vs : List ℕ) (j : ℕ) (b : Bool) → j < length ws → length vs ≡ length ws → ltb (getD vs j 0) (2 ^ getD ws j 0) ≡ b
+    → fitb (drop j ws) (drop j vs) ≡ (b && fitb (drop (j + 1) ws) (drop (j + 1) vs))
+fitb-next ws vs j b h e t =
     let hv : j < length vs = omega arith in
-    rw (add-one, drop-cons ws j 0 h, drop-cons vs j 0 hv)
+    rw (add-one, drop-cons ws j 0 h, drop-cons vs j 0 hv, t)

@@ -1,3 +1,5 @@
 pub mod Bits
 pub mod Field
 pub mod Layouts
+pub mod Segment
+pub mod Refusal

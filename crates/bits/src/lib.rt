@@ -1,20 +1,16 @@
 // Bits of a row of bytes, most significant first: read and written as fields.
 ghost use mathlib.Core.Path.{_≡_};
-ghost use mathlib.Core.Bool.{Bool, true, false};
-ghost use Prim.Native.Nat.{ℕ, _+_, _*_, _-_, _^_, _<_, _≤_};
+ghost use mathlib.Core.Bool.{true, false};
+ghost use Prim.Native.Nat.{_+_, _*_, _-_, _%_, _^_, _<_, _≤_, min};
 ghost use mathlib.Core.List.{_++_};
-ghost use lib.ListN.{length, getD, set, drop};
-ghost use Rattle.bits.specs.Bits.{digit, odd, bits};
+ghost use lib.Dec.{eqb, ltb};
+ghost use lib.ListN.{length, getD, drop};
+ghost use Rattle.bits.specs.Bits.{digit, bits};
 ghost use Rattle.bits.specs.Field.{field, putBits, within, getOf, putOf};
-ghost use Rattle.bits.specs.Layout.{pack, unpack, sum, Layout, Narrow, fitb};
+ghost use Rattle.bits.specs.Layout.{pack, unpack, sum, Layout, fitb};
+ghost use Rattle.bits.specs.Segment.{segment, segments, holds, fixedHold};
 
-fn wide(x: u8) -> u64
-    ensures { λ r. ⌜ r ≡ x ⌝ }
-{
-    x as u64
-}
-
-// 2 to the power k.
+// 2 to the power k. It requires k below 64, since no larger power is a number of 64 bits.
 pub fn pow2(k: usize) -> u64
     requires { ⌜ k < 64 ⌝ }
     ensures { λ r. ⌜ r ≡ 2 ^ k ⌝ }
@@ -22,26 +18,53 @@ pub fn pow2(k: usize) -> u64
     1 << k
 }
 
-// Bit r of byte q, 0 or 1.
+// Bit r of byte q, 0 or 1. It requires that there is such a bit, so that a loop over bits pays for no test.
 pub fn bit(s: &[u8], q: usize, r: usize) -> u64
     requires { ⌜ (q < length (now s)) × (r < 8) ⌝ }
     ensures { λ v. ⌜ v ≡ digit (getD (bits (now (s .entry))) (8 * q + r) false) ⌝ }
 {
-    (wide(s[q]) >> (7 - r)) & 1
+    (s[q] as u64 >> (7 - r)) & 1
 }
 
-// Bit r of byte q becomes b.
-fn set_bit(s: &mut [u8], q: usize, r: usize, b: u64)
-    requires { ⌜ (q < length (now s)) × (r < 8) × (b < 2) ⌝ }
-    ensures { λ _. ⌜ bits (now (s .exit)) ≡ set (bits (now (s .entry))) (8 * q + r) (odd b) ⌝ }
+// The n low bits of v.
+fn low_bits(v: u64, n: usize) -> u64
+    requires { ⌜ n < 64 ⌝ }
+    ensures { λ r. ⌜ r ≡ v % 2 ^ n ⌝ }
 {
-    let old = bit(s, q, r);
-    let m = pow2(7 - r);
-    let x = wide(s[q]);
-    s[q] = (x - old * m + b * m) as u8;
+    v & (pow2(n) - 1)
 }
 
-// The width bits from bit at on, as a number.
+// The smaller of two numbers.
+fn smaller(a: usize, b: usize) -> usize
+    ensures { λ r. ⌜ r ≡ min a b ⌝ }
+{
+    if a < b {
+        return a;
+    }
+    b
+}
+
+// The n bits from bit r of byte q on, as a number: the part of a field that lies in that byte.
+fn read_part(s: &[u8], q: usize, r: usize, n: usize) -> u64
+    requires { ⌜ (q < length (now s)) × (r + n ≤ 8) ⌝ }
+    ensures { λ v. ⌜ v ≡ field (now (s .entry)) (8 * q + r) n ⌝ }
+{
+    low_bits(s[q] as u64 >> (8 - r - n), n)
+}
+
+// The n bits from bit r of byte q on become the low bits of v.
+fn write_part(s: &mut [u8], q: usize, r: usize, n: usize, v: u64)
+    requires { ⌜ (q < length (now s)) × (r + n ≤ 8) ⌝ }
+    ensures { λ _. ⌜ bits (now (s .exit)) ≡ putBits (now (s .entry)) (8 * q + r) n v ⌝ }
+{
+    let old = read_part(s, q, r, n);
+    let new = low_bits(v, n);
+    let weight = pow2(8 - r - n);
+    s[q] = (s[q] as u64 - old * weight + new * weight) as u8;
+}
+
+// The width bits from bit at on, as a number, one byte's part at a turn. The place is kept as a byte
+// and an offset in it, since eight times a length may not fit.
 fn read_field(s: &[u8], at: usize, width: usize) -> u64
     requires { ⌜ (width ≤ 64) × (at + width ≤ 8 * length (now s)) ⌝ }
     ensures { λ r. ⌜ r ≡ field (now (s .entry)) at width ⌝ }
@@ -52,9 +75,10 @@ fn read_field(s: &[u8], at: usize, width: usize) -> u64
     let mut i = 0;
     while i < width {
         let k = off + i;
-        let b = bit(s, first + k / 8, k % 8);
-        v = v * 2 + b;
-        i += 1;
+        let n = smaller(8 - k % 8, width - i);
+        let part = read_part(s, first + k / 8, k % 8, n);
+        v = (v << n) + part;
+        i += n;
     }
     v
 }
@@ -69,9 +93,9 @@ fn write_field(s: &mut [u8], at: usize, width: usize, v: u64)
     let mut i = 0;
     while i < width {
         let k = off + i;
-        let b = (v >> (width - 1 - i)) & 1;
-        set_bit(s, first + k / 8, k % 8, b);
-        i += 1;
+        let n = smaller(8 - k % 8, width - i);
+        write_part(s, first + k / 8, k % 8, n, v >> (width - i - n));
+        i += n;
     }
 }
 
@@ -86,9 +110,14 @@ fn inside(n: usize, at: usize, width: usize) -> bool
     if n < first {
         return false;
     }
-    (at % 8 + width + 7) / 8 <= n - first
+    // the bytes that the field touches, against those from its first byte on
+    if n - first < (at % 8 + width + 7) / 8 {
+        return false;
+    }
+    true
 }
 
+// The field of width bits from bit at on; 0 where it does not lie in the bytes or has more than 64 bits.
 pub fn get(s: &[u8], at: usize, width: usize) -> u64
     ensures { λ r. ⌜ r ≡ getOf (now (s .entry)) at width ⌝ }
 {
@@ -99,6 +128,7 @@ pub fn get(s: &[u8], at: usize, width: usize) -> u64
     }
 }
 
+// That field becomes the low bits of v; where `get` finds none, nothing is written.
 pub fn put(s: &mut [u8], at: usize, width: usize, v: u64)
     ensures { λ _. ⌜ now (s .exit) ≡ putOf (now (s .entry)) at width v ⌝ }
 {
@@ -107,7 +137,9 @@ pub fn put(s: &mut [u8], at: usize, width: usize, v: u64)
     }
 }
 
-// The fields of the given widths, end to end.
+// The values of the fields of the given widths, end to end from the first bit on.
+// The widths are a table of the calling program, known when it is written: that they find room is for its
+// proof to show once, and no answer at run time would help a program whose table is wrong.
 pub fn read_all(s: &[u8], ws: &[usize], out: &mut [u64])
     requires { ⌜ Layout (now ws) (length (now s)) × (length (now out) ≡ length (now ws)) ⌝ }
     ensures { λ _. ⌜ now (out .exit) ≡ unpack (now (ws .entry)) (bits (now (s .entry))) ⌝ }
@@ -122,7 +154,9 @@ pub fn read_all(s: &[u8], ws: &[usize], out: &mut [u64])
     }
 }
 
-// The values in fields of the given widths, end to end; the bits after them stay.
+// The values, in fields of the given widths, end to end from the first bit on; the bits after them stay.
+// It requires what `read_all` does, for the same reason. A value too wide for its field loses its high bits:
+// `fits_all` tells beforehand.
 pub fn write_all(buf: &mut [u8], ws: &[usize], vs: &[u64])
     requires { ⌜ Layout (now ws) (length (now buf)) × (length (now vs) ≡ length (now ws)) ⌝ }
     ensures { λ _. ⌜ bits (now (buf .exit)) ≡ pack (now (ws .entry)) (now (vs .entry)) ++ drop (sum (now (ws .entry))) (bits (now (buf .entry))) ⌝ }
@@ -137,15 +171,70 @@ pub fn write_all(buf: &mut [u8], ws: &[usize], vs: &[u64])
     }
 }
 
-// Whether each value fits its place.
+// v has at most w bits.
+fn fits(w: usize, v: u64) -> bool
+    ensures { λ r. ⌜ r ≡ ltb v (2 ^ w) ⌝ }
+{
+    if 64 <= w {
+        return true;
+    }
+    v < pow2(w)
+}
+
+// Whether there is a value for each field and each fits its field.
 pub fn fits_all(ws: &[usize], vs: &[u64]) -> bool
-    requires { ⌜ Narrow (now ws) × (length (now vs) ≡ length (now ws)) ⌝ }
     ensures { λ r. ⌜ r ≡ fitb (now (ws .entry)) (now (vs .entry)) ⌝ }
 {
+    if vs.len() != ws.len() {
+        return false;
+    }
     let mut j = 0;
     while j < ws.len() {
-        let p = pow2(ws[j]);
-        if p <= vs[j] {
+        if !fits(ws[j], vs[j]) {
+            return false;
+        }
+        j += 1;
+    }
+    true
+}
+
+// v is w bits that are all 1.
+fn all_ones(w: usize, v: u64) -> bool
+    ensures { λ r. ⌜ r ≡ eqb v (2 ^ w - 1) ⌝ }
+{
+    if 64 < w {
+        return false;
+    }
+    if w == 64 {
+        return v == 18446744073709551615;
+    }
+    v == pow2(w) - 1
+}
+
+// A segment of the given kind and width holds v, if that is fixed.
+fn segment_holds(kind: u8, w: usize, v: u64) -> bool
+    ensures { λ r. ⌜ r ≡ holds (segment kind w) v ⌝ }
+{
+    if kind == 0 {
+        return true;
+    }
+    if kind == 1 {
+        return all_ones(w, v);
+    }
+    v == 0
+}
+
+// Whether there is a value for each segment and each fixed one holds its own: kind 0 is a field, 1 is fixed
+// at 1, any other at 0. The values are those that `read_all` finds, the fixed ones among them.
+pub fn fixed_hold(kinds: &[u8], ws: &[usize], vs: &[u64]) -> bool
+    ensures { λ r. ⌜ r ≡ fixedHold (segments (now (kinds .entry)) (now (ws .entry))) (now (vs .entry)) ⌝ }
+{
+    if vs.len() != smaller(kinds.len(), ws.len()) {
+        return false;
+    }
+    let mut j = 0;
+    while j < vs.len() {
+        if !segment_holds(kinds[j], ws[j], vs[j]) {
             return false;
         }
         j += 1;

@@ -1,6 +1,5 @@
 use mathlib.Core.Path.{_∙_, ap, sym}
 use mathlib.Core.Bool.{Bool}
-use Prim.Native.Nat.{_-_}
 use denote.Ref.{now}
 use lib.ListN.{length}
 use borrow.Author.Needs.{needs}
@@ -9,10 +8,6 @@ use Rattle.bits.specs.Field.{field}
 use Rattle.bits.proofs.Field.{within-true}
 use Rattle.bits.proofs.get.Statement.{statement}
 use Rattle.bits.proofs.get.Tie as tie
-use Rattle.bits.proofs.get.Reads as reads
-use Rattle.bits.proofs.get.Lts as lts
-use Rattle.bits.proofs.inside.Reads as inside-reads
-use Rattle.bits.proofs.read_field.Reads as read-field-reads
 
 inside-requires : tie.Need-inside-requires
 inside-requires c κs = search needs

@@ -1,31 +1,35 @@
-use Prim.Native.Nat.{_+_, _-_, _*_, _/_, _%_}
+use mathlib.Core.Path.{sym}
 use native.Mathlib.Omega.{arith}
-use borrow.Author.Tests.{le-leb, lt-leb}
+use Rattle.bits.proofs.Field.{within-room, within-wide, within-past}
 use borrow.Author.Needs.{needs}
-use Rattle.bits.proofs.Field.{leb-same}
 use Rattle.bits.proofs.inside.Statement.{statement}
 use Rattle.bits.proofs.inside.Tie as tie
-use Rattle.bits.proofs.inside.Reads as reads
-use Rattle.bits.proofs.inside.Lts as lts
 
 returns : tie.Need-returns
-returns c = rw (lt-leb _ _ (c .if1 .taken))
+returns c =
+    let a = c .before .args in
+    sym (within-wide (a .n) (a .at) (a .width) (c .if1 .taken))
 
 returns-2 : tie.Need-returns-2
 returns-2 c =
     let a = c .before .before .args in
-    rw (le-leb (a .width) 64 (c .before .if1 .left), lt-leb (a .at + a .width) (8 * a .n) (omega arith))
+    sym (within-past (a .n) (a .at) (a .width) (omega arith))
 
-add-result : tie.Need-add-result
-add-result c = search needs
+add-if3 : tie.Need-add-if3
+add-if3 c = search needs
 
-add-result-2 : tie.Need-add-result-2
-add-result-2 c = search needs
+add-if3-2 : tie.Need-add-if3-2
+add-if3-2 c = search needs
 
 returns-3 : tie.Need-returns-3
 returns-3 c =
-    let a = c .before .before .args in
-    rw (le-leb (a .width) 64 (c .before .if1 .left)) (leb-same ((a .at % 8 + a .width + 7) / 8) (a .n - a .at / 8) (a .at + a .width) (8 * a .n) (λ h. omega arith) (λ h. omega arith))
+    let a = c .before .before .before .args in
+    sym (within-past (a .n) (a .at) (a .width) (omega arith))
+
+returns-4 : tie.Need-returns-4
+returns-4 c =
+    let a = c .before .before .before .args in
+    sym (within-room (a .n) (a .at) (a .width) (omega arith) (omega arith))
 
 pub inside-spec : {M : Type 1} → statement M
-inside-spec = tie.close (tie.spec returns returns-2 add-result add-result-2 returns-3)
+inside-spec = tie.close (tie.spec returns returns-2 add-if3 add-if3-2 returns-3 returns-4)

@@ -5,8 +5,6 @@ use lib.Pow.{pow-lt}
 use borrow.Author.Needs.{needs}
 use Rattle.bits.proofs.pow2.Statement.{statement}
 use Rattle.bits.proofs.pow2.Tie as tie
-use Rattle.bits.proofs.pow2.Reads as reads
-use Rattle.bits.proofs.pow2.Lts as lts
 
 shl-result : tie.Need-shl-result
 shl-result c = search needs

@@ -1,7 +1,7 @@
 use mathlib.Core.Path.{_∙_, ap, ap₂, sym}
 use mathlib.Core.Bool.{Bool}
 use mathlib.Core.List.{List}
-use Prim.Native.Nat.{ℕ, _-_}
+use Prim.Native.Nat.{ℕ}
 use denote.Ref.{now}
 use lib.ListN.{length}
 use borrow.Author.Needs.{needs}
@@ -12,10 +12,6 @@ use Rattle.bits.proofs.Field.{within-true}
 use Rattle.bits.proofs.Bits.{bytes-bits}
 use Rattle.bits.proofs.put.Statement.{statement}
 use Rattle.bits.proofs.put.Tie as tie
-use Rattle.bits.proofs.put.Reads as reads
-use Rattle.bits.proofs.put.Lts as lts
-use Rattle.bits.proofs.inside.Reads as inside-reads
-use Rattle.bits.proofs.write_field.Reads as write-field-reads
 
 inside-requires : tie.Need-inside-requires
 inside-requires c κs = search needs

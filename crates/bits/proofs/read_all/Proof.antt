@@ -10,9 +10,6 @@ use Rattle.bits.specs.Bits.{bits, value}
 use Rattle.bits.proofs.Layouts.{unpack-next, sum-take, sum-next}
 use Rattle.bits.proofs.read_all.Statement.{statement}
 use Rattle.bits.proofs.read_all.Tie as tie
-use Rattle.bits.proofs.read_all.Reads as reads
-use Rattle.bits.proofs.read_all.Lts as lts
-use Rattle.bits.proofs.read_field.Reads as read-field-reads
 
 abbrev Inv-loop : tie.InvT-loop
 Inv-loop s ws out₀ at₀ j₀ out at j = (j ≤ length ws) × (at ≡ sum (take j ws)) × (length out ≡ length out₀) × (out ≡ unpack (take j ws) (bits s) ++ drop j out₀)

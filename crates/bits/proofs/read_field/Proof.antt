@@ -1,63 +1,70 @@
+use mathlib.Core.Path.{_≡_, _∙_, ap, sym, refl}
 use mathlib.Core.List.{[]}
-use mathlib.Core.Path.{refl}
-use lib.Pow.{pow-mono}
-use mathlib.Core.Bool.{false}
-use mathlib.Core.Path.{_≡_, _∙_, ap, sym}
 use Prim.Native.Nat.{ℕ, _+_, _-_, _*_, _/_, _%_, _^_, _≤_, _<_}
 use native.Mathlib.Omega.{arith}
+use lib.Pow.{pow-mono, shl-exact}
 use denote.Ref.{now}
-use lib.ListN.{length, getD, take, drop}
-use Rattle.bits.specs.Bits.{digit, value, bits}
-use Rattle.bits.proofs.Field.{field-more}
-use Rattle.bits.proofs.Bits.{value-take-lt, length-bits}
+use lib.ListN.{drop}
+use Rattle.bits.specs.Bits.{value, bits}
+use Rattle.bits.specs.Field.{field}
+use Rattle.bits.proofs.Bits.{value-take-lt}
+use Rattle.bits.proofs.Field.{field-add}
 use Rattle.bits.proofs.read_field.Statement.{statement}
 use Rattle.bits.proofs.read_field.Tie as tie
-use Rattle.bits.proofs.read_field.Reads as reads
-use Rattle.bits.proofs.read_field.Lts as lts
-use Rattle.bits.proofs.bit.Reads as bit-reads
 
 abbrev Inv-loop : tie.InvT-loop
-Inv-loop s at width first off v₀ i₀ v i = (i ≤ width) × (v ≡ value (take i (drop at (bits s))))
+Inv-loop s at width first off v₀ i₀ v i = (i ≤ width) × (v ≡ field s at i)
 
 abbrev μ-loop : tie.MeasureT-loop
 μ-loop s at width first off v₀ i₀ v i = width - i
 
-zero-value : _≡_ {A = ℕ} 0 (value [])
+empty : _≡_ {A = ℕ} 0 (value [])
 unfolding value
-zero-value = refl
+empty = refl
 
 loop-holds : tie.Need-loop-holds Inv-loop μ-loop
-loop-holds c = (omega arith, zero-value)
+loop-holds c = (omega arith, empty)
 
 add-k : tie.Need-add-k Inv-loop μ-loop
 add-k c = omega arith
 
-add-bit : tie.Need-add-bit Inv-loop μ-loop
-add-bit c = omega arith
+sub-smaller : tie.Need-sub-smaller Inv-loop μ-loop
+sub-smaller c = omega arith
 
-bit-requires : tie.Need-bit-requires Inv-loop μ-loop
-bit-requires c κs = omega arith
+sub-smaller-2 : tie.Need-sub-smaller-2 Inv-loop μ-loop
+sub-smaller-2 c = omega arith
 
-next : (c : tie.After-bit Inv-loop μ-loop)
-    → c .before .before .loop .v * 2 + c .bit .result
-    ≡ value (take (c .before .before .loop .i + 1) (drop (c .before .before .before .before .args .at) (bits (now (c .before .before .before .before .args .s)))))
+smaller-requires : tie.Need-smaller-requires Inv-loop μ-loop
+smaller-requires c κs = tt
+
+add-read-part : tie.Need-add-read-part Inv-loop μ-loop
+add-read-part c = omega arith
+
+read-part-requires : tie.Need-read-part-requires Inv-loop μ-loop
+read-part-requires c κs = (omega arith, omega arith)
+
+-- the i bits read are the high ones, the n of this turn the low ones
+next : (c : tie.After-read-part Inv-loop μ-loop)
+    → c .before .before .before .loop .v * 2 ^ c .before .smaller .result % 2 ^ 64 + c .read-part .result
+    ≡ field (now (c .before .before .before .before .before .args .s)) (c .before .before .before .before .before .args .at) (c .before .before .before .loop .i + c .before .smaller .result)
 next c =
-    let a = c .before .before .before .before .args in
-    let l = c .before .before .loop in
-    let s = bits (now (a .s)) in
+    let a = c .before .before .before .before .before .args in
+    let s = now (a .s) in
+    let l = c .before .before .before .loop in
+    let n = c .before .smaller .result in
     let e : 8 * (a .at / 8 + (a .at % 8 + l .i) / 8) + (a .at % 8 + l .i) % 8 ≡ a .at + l .i = omega arith in
-    let b : c .bit .result ≡ digit (getD s (a .at + l .i) false) = c .bit .ensures ∙ ap (λ (k : ℕ). digit (getD s k false)) e in
-    let h : a .at + l .i < length s = omega (arith, length-bits (now (a .s))) in
-    rw (b, l .inv .1) (sym (field-more s (a .at) (l .i) h))
+    let m : l .v * 2 ^ n % 2 ^ 64 ≡ l .v * 2 ^ n = shl-exact (l .i) n 64 (rw (l .inv .1) (value-take-lt (l .i) (drop (a .at) (bits s)))) (omega arith) in
+    rw (m, c .read-part .ensures, e, l .inv .1) (sym (field-add s (a .at) (l .i) n (omega arith)))
 
-fits : (c : tie.After-bit Inv-loop μ-loop) → c .before .before .loop .v * 2 + c .bit .result < 2 ^ 64
+fits : (c : tie.After-read-part Inv-loop μ-loop)
+    → c .before .before .before .loop .v * 2 ^ c .before .smaller .result % 2 ^ 64 + c .read-part .result < 2 ^ 64
 fits c =
-    let a = c .before .before .before .before .args in
-    let l = c .before .before .loop in
-    omega (arith, next c, value-take-lt (l .i + 1) (drop (a .at) (bits (now (a .s)))), pow-mono {i = l .i + 1} {j = 64} (omega arith))
+    let a = c .before .before .before .before .before .args in
+    let w = c .before .before .before .loop .i + c .before .smaller .result in
+    omega (arith, next c, value-take-lt w (drop (a .at) (bits (now (a .s)))), pow-mono {i = w} {j = 64} (omega arith))
 
-mul-v : tie.Need-mul-v Inv-loop μ-loop
-mul-v c = omega (arith, fits c)
+shl-v : tie.Need-shl-v Inv-loop μ-loop
+shl-v c = omega arith
 
 add-v : tie.Need-add-v Inv-loop μ-loop
 add-v c = omega (arith, fits c)
@@ -76,7 +83,7 @@ returns c =
     let a = c .before .before .before .args in
     let l = c .before .loop in
     let e : l .i ≡ a .width = omega arith in
-    l .inv .1 ∙ ap (λ (k : ℕ). value (take k (drop (a .at) (bits (now (a .s)))))) e
+    l .inv .1 ∙ ap (λ (k : ℕ). field (now (a .s)) (a .at) k) e
 
 pub read-field-spec : {M : Type 1} → statement M
 read-field-spec =
@@ -86,9 +93,12 @@ read-field-spec =
     μ-loop
     loop-holds
     add-k
-    add-bit
-    bit-requires
-    mul-v
+    sub-smaller
+    sub-smaller-2
+    smaller-requires
+    add-read-part
+    read-part-requires
+    shl-v
     add-v
     add-i
     loop-less

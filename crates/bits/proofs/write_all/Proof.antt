@@ -13,9 +13,6 @@ use Rattle.bits.proofs.Layouts.{pack-next, sum-take, sum-next}
 use Rattle.bits.proofs.Bits.{length-bits}
 use Rattle.bits.proofs.write_all.Statement.{statement}
 use Rattle.bits.proofs.write_all.Tie as tie
-use Rattle.bits.proofs.write_all.Reads as reads
-use Rattle.bits.proofs.write_all.Lts as lts
-use Rattle.bits.proofs.write_field.Reads as write-field-reads
 
 abbrev Inv-loop : tie.InvT-loop
 Inv-loop buf₀ ws vs at₀ j₀ buf at j = (j ≤ length ws) × (at ≡ sum (take j ws)) × (length buf ≡ length buf₀) × (bits buf ≡ pack (take j ws) (take j vs) ++ drop (sum (take j ws)) (bits buf₀))
