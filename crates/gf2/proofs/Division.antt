@@ -6,7 +6,7 @@ use Prim.Native.Nat.{ℕ, zero, suc, _+_}
 use native.Mathlib.Omega.{arith}
 use lib.ListN.{length, length-append, length-replicate}
 use Rattle.gf2.specs.Polynomial.{_⊕_, zeros, add, scale, mul, remainder, quotient, checkBits}
-use Rattle.gf2.proofs.Sum.{xor-false, length-add, length-scale, scale-cons, add-zeros, add-to-zeros, add-same, add-none, add-self, add-assoc, add-swap, add-append}
+use Rattle.gf2.proofs.Sum.{xor-false, length-add, length-scale, scale-cons, scale-xor, add-zeros, add-to-zeros, add-same, add-none, add-self, add-assoc, add-swap, add-append}
 
 -- ---- lengths
 
@@ -52,6 +52,27 @@ divides g (suc k) (b ∷ w) e =
     let t : add (add (scale b g) m) z ≡ w =
     add-assoc (scale b g) m z (omega (arith, length-scale b g)) ∙ ap (add (scale b g)) (sym (divides g k u l)) ∙ add-self (scale b g) w in
     sym (ap (λ v. add v (false ∷ z)) (mul-cons g b (quotient g k u)) ∙ ap₂ _∷_ (xor-false b) t)
+
+-- ---- the remainder of a sum is the sum of the remainders
+
+pub remainder-add : (g : List Bool) (k : ℕ) (u w : List Bool) → length u ≡ k + length g → length w ≡ k + length g
+    → remainder g k (add u w) ≡ add (remainder g k u) (remainder g k w)
+unfolding remainder add
+remainder-add g zero u w lu lw = refl
+remainder-add g (suc k) [] w lu lw = absurd (omega arith)
+remainder-add g (suc k) (a ∷ u) [] lu lw = absurd (omega arith)
+remainder-add g (suc k) (a ∷ u) (b ∷ w) lu lw =
+    let p = scale a g in
+    let q = scale b g in
+    let lp : length p ≡ length g = length-scale a g in
+    let lq : length q ≡ length g = length-scale b g in
+    let e : add (scale (a ⊕ b) g) (add u w) ≡ add (add p u) (add q w) =
+    ap (λ x. add x (add u w)) (scale-xor a b g)
+    ∙ add-assoc p q (add u w) (omega arith)
+    ∙ ap (add p) (add-swap q u w)
+    ∙ sym (add-assoc p u (add q w) (omega arith)) in
+    ap (remainder g k) e
+    ∙ remainder-add g k (add p u) (add q w) (length-add p u ∙ omega arith) (length-add q w ∙ omega arith)
 
 -- ---- a word is a multiple of the divisor exactly if nothing remains
 

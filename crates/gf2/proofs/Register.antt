@@ -55,11 +55,24 @@ feed-check g m h =
     feed-remainder g (zeros (length g)) m (length-replicate (length g) false) h
     ∙ ap (remainder g (length m)) (add-zeros (length g) (m ++ zeros (length g)))
 
--- ---- a register that is fed its own bits comes to zero
+-- ---- zeros
 
 zeros-snoc : (k : ℕ) → zeros k ++ (false ∷ []) ≡ zeros (suc k)
 zeros-snoc zero = refl
 zeros-snoc (suc k) = ap (false ∷_) (zeros-snoc k)
+
+step-zeros : (g : List Bool) (n : ℕ) → step g (zeros n) false ≡ zeros n
+unfolding step scale
+step-zeros g zero = refl
+step-zeros g (suc n) = add-zeros (length g) (zeros n ++ (false ∷ [])) ∙ zeros-snoc n
+
+-- a register of zeros stays so on zeros
+pub feed-zeros : (g : List Bool) (n k : ℕ) → feed g (zeros n) (zeros k) ≡ zeros n
+unfolding feed
+feed-zeros g n zero = refl
+feed-zeros g n (suc k) = ap (λ r. feed g r (zeros k)) (step-zeros g n) ∙ feed-zeros g n k
+
+-- ---- a register that is fed its own bits comes to zero
 
 feed-front : (g x : List Bool) (k : ℕ) → feed g (x ++ zeros k) x ≡ zeros (length x + k)
 unfolding feed step scale

@@ -88,6 +88,12 @@ unfolding add
 add-same [] = refl
 add-same (a ∷ u) = ap₂ _∷_ (xor-same a) (add-same u)
 
+pub scale-xor : (a b : Bool) (u : List Bool) → scale (a ⊕ b) u ≡ add (scale a u) (scale b u)
+unfolding scale
+scale-xor false b u = sym (add-zeros (length u) (scale b u))
+scale-xor true false u = sym (add-to-zeros u)
+scale-xor true true u = sym (add-same u)
+
 pub add-none : (u w : List Bool) → length u ≡ length w → add u w ≡ zeros (length w) → u ≡ w
 unfolding add
 add-none [] [] h e = refl
