@@ -1,0 +1,15 @@
+-- `crc::table32::table` meets its contract: one computed test over all entries. Assumes nothing.
+use mathlib.Core.Path.{refl}
+use Rattle.gf2.specs.Polynomial.{add, scale, remainder, checkBits}
+use Rattle.bits.specs.Bits.{digit, odd, value, bitsOf}
+use Rattle.crc.specs.Crc.{g32}
+use Rattle.crc.proofs.Table.{remainders}
+use Rattle.crc.proofs.table32.table.Statement.{statement}
+use Rattle.crc.proofs.table32.table.Tie as tie
+
+returns : tie.Need-returns
+unfolding checkBits remainder add scale bitsOf odd value digit
+returns c = remainders g32 _ refl tt
+
+pub table-spec : {M : Type 1} → statement M
+table-spec = tie.close (tie.spec returns)

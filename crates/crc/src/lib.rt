@@ -1,0 +1,81 @@
+// The CRC-10 of frames and the CRC-32 of headers, up to eight bits at a time.
+mod table10;
+mod table32;
+
+ghost use mathlib.Core.Path.{_≡_};
+ghost use Prim.Native.Nat.{_+_, _^_, _<_, _≤_, min};
+ghost use lib.ListN.{take, drop};
+ghost use Rattle.bits.specs.Bits.{bits, value, bitsOf};
+ghost use Rattle.gf2.specs.Register.{feed};
+ghost use Rattle.crc.specs.Crc.{g10, g32, crc10Of, crc32Of};
+ghost use Rattle.crc.specs.Remainders.{Remainders};
+
+// A byte into the register of CRC-32.
+fn feed32(t: &[u32; 256], r: u32, b: u8) -> u32
+    requires { ⌜ Remainders g32 (now t) ⌝ }
+    ensures { λ z. ⌜ z ≡ value (feed g32 (bitsOf 32 r) (bitsOf 8 b)) ⌝ }
+{
+    let k = (r >> 24) ^ b as u32;
+    (r << 8) ^ t[k as usize]
+}
+
+// The CRC-32 of all of s.
+pub fn crc32(s: &[u8]) -> u32
+    ensures { λ r. ⌜ r ≡ crc32Of (bits (now (s .entry))) ⌝ }
+{
+    // A table is taken once: each use of a constant array is a copy of it.
+    let t = table32::table();
+    let mut r: u32 = 0xFFFF_FFFF;
+    let mut i = 0;
+    while i < s.len() {
+        r = feed32(&t, r, s[i]);
+        i += 1;
+    }
+    r
+}
+
+// The k bits v into the register of CRC-10. One table serves each k: leading zeros leave the remainder of v as it is.
+fn feed10(t: &[u16; 256], r: u16, v: u16, k: usize) -> u16
+    requires { ⌜ Remainders g10 (now t) × (r < 1024) × (k ≤ 8) × (v < 2 ^ k) ⌝ }
+    ensures { λ z. ⌜ z ≡ value (feed g10 (bitsOf 10 r) (bitsOf k v)) ⌝ }
+{
+    let i = (r >> (10 - k)) ^ v;
+    ((r << k) % 1024) ^ t[i as usize]
+}
+
+// The k bits of x from its bit o on.
+fn part(x: u8, o: usize, k: usize) -> u16
+    requires { ⌜ o + k ≤ 8 ⌝ }
+    ensures { λ r. ⌜ r ≡ value (take k (drop o (bitsOf 8 x))) ⌝ }
+{
+    (x as u16 >> (8 - o - k)) % (1 << k)
+}
+
+fn least(a: usize, b: usize) -> usize
+    ensures { λ r. ⌜ r ≡ min a b ⌝ }
+{
+    if a < b { a } else { b }
+}
+
+// The CRC-10 of the count bits of s from bit at on; bits past the end of s are not there.
+pub fn crc10(s: &[u8], at: usize, count: usize) -> u16
+    ensures { λ r. ⌜ r ≡ crc10Of (take count (drop at (bits (now (s .entry))))) ⌝ }
+{
+    let t = table10::table();
+    let mut r: u16 = 0;
+    // The next bit is bit o of byte q: its number in bits could be too large for a usize.
+    let mut q = at / 8;
+    let mut o = at % 8;
+    let mut left = count;
+    while 0 < left {
+        if s.len() <= q {
+            return r;
+        }
+        let k = least(8 - o, left);
+        r = feed10(&t, r, part(s[q], o, k), k);
+        q += (o + k) / 8;
+        o = (o + k) % 8;
+        left -= k;
+    }
+    r
+}

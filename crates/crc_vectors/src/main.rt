@@ -1,0 +1,127 @@
+// The CRCs at published check values and at a model header, and against a division bit by bit.
+use libc::STDOUT_FILENO;
+
+// A register after the bits of s from bit `from` up to bit `to`, one at a time. `high` is its highest bit, `mask` has all of them.
+fn slow(s: &[u8], from: usize, to: usize, start: u64, high: u64, mask: u64, poly: u64) -> u64 {
+    let mut r = start;
+    let mut k = from;
+    while k < to {
+        let q = k / 8;
+        if q < s.len() {
+            let bit = (s[q] >> (7 - k % 8)) & 1 == 1;
+            let top = r & high == high;
+            r = (r << 1) & mask;
+            if top != bit {
+                r = r ^ poly;
+            }
+        }
+        k += 1;
+    }
+    r
+}
+
+fn slow10(s: &[u8], from: usize, to: usize) -> u64 {
+    slow(s, from, to, 0, 0x200, 0x3FF, 0x233)
+}
+
+fn slow32(s: &[u8], to: usize) -> u64 {
+    slow(s, 0, to, 0xFFFF_FFFF, 0x8000_0000, 0xFFFF_FFFF, 0x04C1_1DB7)
+}
+
+// Whether the two ways agree on the bits of s from bit `from` up to each bit, some past its end.
+fn agree10(s: &[u8], from: usize) -> bool {
+    let mut to = from;
+    while to < 180 {
+        if crc::crc10(s, from, to - from) as u64 != slow10(s, from, to) {
+            return false;
+        }
+        to += 1;
+    }
+    true
+}
+
+// Whether they agree on the first i bytes of s, for each i below its length and 100.
+fn agree32(s: &[u8]) -> bool {
+    let mut i = 0;
+    while i < s.len() {
+        if i == 100 {
+            return true;
+        }
+        let front = &s[..i];
+        if crc::crc32(front) as u64 != slow32(s, i * 8) {
+            return false;
+        }
+        i += 1;
+    }
+    true
+}
+
+// Bytes 4 to 183 of a header that is all zero but for the form, the validity of the streams, the fixed bit, the identifiers (i, 1) for
+// i from 1 to 15, and the ones of its extension.
+fn model() -> [u8; 180] {
+    let mut h = [0u8; 180];
+    h[2] = 1;
+    h[3] = 0xFF;
+    h[4] = 0xFF;
+    let mut i: u8 = 0;
+    while i < 15 {
+        let k = i as usize * 4;
+        h[k + 6] = i + 1;
+        h[k + 8] = 1;
+        i += 1;
+    }
+    let mut k = 95;
+    while k < 180 {
+        h[k] = 0xFF;
+        k += 1;
+    }
+    h
+}
+
+fn header_crc(h: &[u8; 180]) -> u32 {
+    crc::crc32(h)
+}
+
+fn line(text: &[u8], n: u64, digits: usize) {
+    io::write_all(STDOUT_FILENO, text);
+    io::print_hex(STDOUT_FILENO, n, digits);
+    io::write_all(STDOUT_FILENO, b"\n");
+}
+
+fn line10(text: &[u8], n: u16) {
+    line(text, n as u64, 3);
+}
+
+fn line32(text: &[u8], n: u32) {
+    line(text, n as u64, 8);
+}
+
+fn answer(text: &[u8], ok: bool) {
+    io::write_all(STDOUT_FILENO, text);
+    if ok {
+        io::write_all(STDOUT_FILENO, b"yes\n");
+    } else {
+        io::write_all(STDOUT_FILENO, b"no\n");
+    }
+}
+
+fn main() {
+    let nothing = [0u8; 0];
+    let digits = b"123456789";
+    let words = b"The quick brown fox";
+    let header = model();
+    line10(b"CRC-10 of 123456789: ", crc::crc10(digits, 0, 72));
+    line10(b"CRC-10 of nothing: ", crc::crc10(&nothing, 0, 91));
+    line10(b"CRC-10 past the end: ", crc::crc10(digits, 1 << 63, 91));
+    line10(
+        b"CRC-10 of more than is there: ",
+        crc::crc10(digits, 0, 0xFFFF_FFFF_FFFF_FFFF),
+    );
+    line32(b"CRC-32 of 123456789: ", crc::crc32(digits));
+    line32(b"CRC-32 of nothing: ", crc::crc32(&nothing));
+    line32(b"CRC-32 of the model header: ", header_crc(&header));
+    answer(b"CRC-10 as bit by bit from bit 0: ", agree10(words, 0));
+    answer(b"CRC-10 as bit by bit from bit 21: ", agree10(words, 21));
+    answer(b"CRC-10 as bit by bit past the end: ", agree10(words, 150));
+    answer(b"CRC-32 as bit by bit: ", agree32(words));
+}
