@@ -84,22 +84,22 @@ refusal-append ((n, true) ∷ ts) us c =
     sym (ap (λ (t : Bool). cond t (firstRefusal us) n) (ne-eqb n 0 (λ e. omega arith)))
 refusal-append ((n, false) ∷ ts) us c = refusal-append ts us (and-eq-true-iff (ltb 0 n) (numbered ts) .0 c .1)
 
--- the first part refuses
-pub append-refused : (ts us : List (ℕ × Bool)) (n : ℕ) → 0 < n → firstRefusal ts ≡ n → firstRefusal (ts ++ us) ≡ n
+-- where the first part refuses
+pub refusal-append-given : (ts us : List (ℕ × Bool)) (n : ℕ) → 0 < n → firstRefusal ts ≡ n → firstRefusal (ts ++ us) ≡ n
 unfolding firstRefusal
-append-refused [] us n h e = absurd (omega arith)
-append-refused ((m, true) ∷ ts) us n h e = e
-append-refused ((m, false) ∷ ts) us n h e = append-refused ts us n h e
+refusal-append-given [] us n h e = absurd (omega arith)
+refusal-append-given ((m, true) ∷ ts) us n h e = e
+refusal-append-given ((m, false) ∷ ts) us n h e = refusal-append-given ts us n h e
 
--- it does not
-pub append-none : (ts us : List (ℕ × Bool)) → NoneGiven ts → firstRefusal (ts ++ us) ≡ firstRefusal us
-append-none [] us h = refl
-append-none ((n, given) ∷ ts) us h = refusal-later n (ts ++ us) (h .0) ∙ append-none ts us (h .1)
+-- and where it does not
+pub refusal-append-none : (ts us : List (ℕ × Bool)) → NoneGiven ts → firstRefusal (ts ++ us) ≡ firstRefusal us
+refusal-append-none [] us h = refl
+refusal-append-none ((n, given) ∷ ts) us h = refusal-later n (ts ++ us) (h .0) ∙ refusal-append-none ts us (h .1)
 
 pub none-append : (ts us : List (ℕ × Bool)) → NoneGiven ts → NoneGiven us → NoneGiven (ts ++ us)
 none-append [] us h k = k
 none-append ((n, given) ∷ ts) us h k = (h .0, none-append ts us (h .1) k)
 
-pub append-none-split : (ts us : List (ℕ × Bool)) → NoneGiven (ts ++ us) → NoneGiven ts × NoneGiven us
-append-none-split [] us h = (tt, h)
-append-none-split ((n, given) ∷ ts) us h = let r = append-none-split ts us (h .1) in ((h .0, r .0), r .1)
+pub none-split : (ts us : List (ℕ × Bool)) → NoneGiven (ts ++ us) → NoneGiven ts × NoneGiven us
+none-split [] us h = (tt, h)
+none-split ((n, given) ∷ ts) us h = let r = none-split ts us (h .1) in ((h .0, r .0), r .1)

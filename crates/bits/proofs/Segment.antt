@@ -94,21 +94,21 @@ fit-free (zeros w ∷ l) (v ∷ vs) f = fit-free l vs (f .1)
 pub length-packSegments : (l : List Segment) (vs : List ℕ) → length (packSegments l vs) ≡ sum (widths l)
 length-packSegments l vs = length-pack (widths l) (withFixed l vs)
 
--- values that fit, laid and read
+-- values that fit, packed and unpacked
 pub unpack-packSegments : (l : List Segment) (vs : List ℕ) → Fit (freeWidths l) vs → unpackSegments l (packSegments l vs) ≡ vs
 unpack-packSegments l vs f =
     ap (free l) (unpack-pack (widths l) (withFixed l vs) (fit-withFixed l vs f)) ∙ free-withFixed l vs (length-fit (freeWidths l) vs f)
 
--- what is laid has its fixed bits
+-- what is packed has its fixed bits
 pub fixed-packSegments : (l : List Segment) (vs : List ℕ) → Fit (freeWidths l) vs → fixedBitsHold l (packSegments l vs) ≡ true
 fixed-packSegments l vs f =
     ap (fixedHold l) (unpack-pack (widths l) (withFixed l vs) (fit-withFixed l vs f)) ∙ fixedHold-withFixed l vs
 
--- bits that have their fixed ones, read and laid
+-- bits whose fixed ones hold, unpacked and packed
 pub pack-unpackSegments : (l : List Segment) (bs : List Bool) → length bs ≡ sum (widths l) → fixedBitsHold l bs ≡ true → packSegments l (unpackSegments l bs) ≡ bs
 pack-unpackSegments l bs e h = ap (pack (widths l)) (withFixed-free l (unpack (widths l) bs) h) ∙ pack-unpack (widths l) bs e
 
--- what is read fits
+-- what is unpacked fits
 pub fit-unpackSegments : (l : List Segment) (bs : List Bool) → Fit (freeWidths l) (unpackSegments l bs)
 fit-unpackSegments l bs = fit-free l (unpack (widths l) bs) (fit-unpack (widths l) bs)
 
