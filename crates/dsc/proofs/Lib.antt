@@ -7,8 +7,11 @@ pub mod Distance
 pub mod Decoding
 pub mod Majority
 pub mod Answers
+pub mod Encoding
 pub mod Promises
+pub mod Worked
 pub mod TableRule
 pub mod RowSums
 pub mod Steps
 pub mod Octets
+pub mod LongDivision

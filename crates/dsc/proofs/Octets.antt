@@ -32,6 +32,11 @@ pub protected-at : (f : List ℕ) (n : ℕ) → n < 187 → at (protected f) n �
 unfolding protected
 protected-at f n h = getD-take 187 (drop 17 (bits f)) n false h ∙ getD-drop 17 (bits f) n false
 
+pub zeros-at : (n k : ℕ) → at (zeros n) k ≡ false
+zeros-at zero k = refl
+zeros-at (suc n) zero = refl
+zeros-at (suc n) (suc k) = zeros-at n k
+
 module _ (w : List Bool) (h : length w ≡ 187) where
   pub padded-before : (k : ℕ) → k < 17 → at (padded w) k ≡ false
   padded-before k l = List·getD-append (zeros 17) (w ++ zeros 4) false k l ∙ getD-replicate 17 k false false l
@@ -44,12 +49,7 @@ module _ (w : List Bool) (h : length w ≡ 187) where
       ap (at (padded w)) (let e : k ≡ 17 + (length w + (k - 204)) = omega arith in e)
       ∙ getD-append-add (zeros 17) (w ++ zeros 4) (length w + (k - 204)) false
       ∙ getD-append-add w (zeros 4) (k - 204) false
-      ∙ none 4 (k - 204)
-    where
-      none : (n k : ℕ) → at (zeros n) k ≡ false
-      none zero k = refl
-      none (suc n) zero = refl
-      none (suc n) (suc k) = none n k
+      ∙ zeros-at 4 (k - 204)
 
   pub length-padded : length (padded w) ≡ 208
   length-padded = length-append (zeros 17) (w ++ zeros 4) ∙ ap (17 +_) (length-append w (zeros 4) ∙ ap (_+ 4) h)

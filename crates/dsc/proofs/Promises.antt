@@ -18,6 +18,7 @@ use Rattle.dsc.proofs.CheckRows.{word-even}
 use Rattle.dsc.proofs.Incidence.{on-seventeen, share-one}
 use Rattle.dsc.proofs.EvenRows.{even-word}
 use Rattle.dsc.proofs.Distance.{dist-hit, dist-same, distance18, only-one}
+use Rattle.dsc.proofs.Encoding.{encoded-word, encoded-message, encoded-only}
 use Rattle.dsc.proofs.Answers.{length-wordBytes, protected-wordBytes, repair-short, repair-decoded, repair-found, repair-none, repairs, repairs-only}
 
 gives-sent-word : (f : List ℕ) (c e : List Bool) → length f ≡ 26 → CodeWord c → length e ≡ 187 → weight e ≤ 8
@@ -79,4 +80,7 @@ code-laws =
       one-shared-row = share-one;
       encoded = parity-word;
       encoded-only = λ m p h l k. parity-only m h p l k;
+      frame-encoded = encoded-word;
+      frame-message = encoded-message;
+      frame-only = λ f w h k e. encoded-only f h w k e;
     }

@@ -25,7 +25,7 @@ ne-xor true true = refl
 
 -- ---- along a list
 
-next : {A : Type 0} (xs : List A) (i : ℕ) (d : A) → i < length xs → drop i xs ≡ getD xs i d ∷ drop (i + 1) xs
+pub next : {A : Type 0} (xs : List A) (i : ℕ) (d : A) → i < length xs → drop i xs ≡ getD xs i d ∷ drop (i + 1) xs
 next xs i d h = drop-cons xs i d h ∙ ap (λ n. getD xs i d ∷ drop n xs) (sym (add-one i))
 
 module _ (f : ℕ → Bool) (xs : List ℕ) (i : ℕ) where

@@ -58,6 +58,10 @@ module _ (m : List Bool) (h : length m ≡ 105) where
   unfolding parityOf
   length-parity = length-check generatorLow m ∙ length-low
 
+  pub parity-remainder : remainder generatorLow 105 (m ++ zeros 82) ≡ parityOf m
+  unfolding parityOf checkBits
+  parity-remainder = sym (ap₂ (λ k n. remainder generatorLow k (m ++ zeros n)) h length-low)
+
   pub parity-word : CodeWord (m ++ parityOf m)
   unfolding parityOf
   parity-word =

@@ -1,5 +1,7 @@
 pub mod Code
 pub mod CheckTable
 pub mod Repair
+pub mod Encoding
 pub mod Promises
+pub mod Worked
 pub mod Engine

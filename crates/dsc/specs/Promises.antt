@@ -5,11 +5,12 @@ use mathlib.Core.Bool.{Bool, false, _&&_}
 use mathlib.Core.Logic.{_≢_}
 use mathlib.Core.List.{List, _++_}
 use Prim.Native.Nat.{ℕ, _≤_, _<_}
-use lib.ListN.{length}
+use lib.ListN.{length, take}
 use Rattle.gf2.specs.Polynomial.{member, add}
 use Rattle.dsc.specs.Code.{CodeWord, count, weight, dist, parityOf}
 use Rattle.dsc.specs.CheckTable.{row, upto, syndrome}
 use Rattle.dsc.specs.Repair.{protected, wordBytes, repairedTo, refusedWith, numberOf, repairOf, Repairs}
+use Rattle.dsc.specs.Encoding.{messageOf, encodeOf}
 use Rattle.dsc.specs.declared.Answer.{Answer}
 
 -- no code word differs from r in eight places or fewer
@@ -50,3 +51,7 @@ pub record CodeLaws : Type 0 where
   -- a message with its parity is a code word, and the only one with that message
   pub encoded : (m : List Bool) → length m ≡ 105 → CodeWord (m ++ parityOf m)
   pub encoded-only : (m p : List Bool) → length m ≡ 105 → length p ≡ 82 → CodeWord (m ++ p) → p ≡ parityOf m
+  -- the same of a frame that is encoded: it keeps its message, and holds the only code word with that message
+  pub frame-encoded : (f : List ℕ) → length f ≡ 26 → CodeWord (protected (encodeOf f))
+  pub frame-message : (f : List ℕ) → length f ≡ 26 → messageOf (encodeOf f) ≡ messageOf f
+  pub frame-only : (f : List ℕ) (w : List Bool) → length f ≡ 26 → CodeWord w → take 105 w ≡ messageOf f → w ≡ protected (encodeOf f)

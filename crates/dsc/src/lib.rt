@@ -2,9 +2,11 @@
 ghost use mathlib.Core.Path.{_≡_};
 ghost use Prim.Native.Nat.{ℕ, _+_};
 ghost use lib.ListN.{length};
+ghost use Rattle.dsc.specs.Encoding.{encodeOf};
 ghost use Rattle.dsc.specs.Repair.{refusedWith, repairedTo, answerTo, protected, decode, repairOf, Repairs};
 
 mod check_table;
+mod encoder;
 mod rows;
 mod words;
 
@@ -69,4 +71,19 @@ pub fn repair(frame: &[u8]) -> Answer
     }
     let received = words::received(frame);
     repair_word(&received)
+}
+
+// The parity of B17 to B121, written to B122 to B203; all else stays, and bytes that are no frame stay whole.
+pub fn encode(frame: &mut [u8])
+    ensures { λ r. ⌜ now (frame .exit) ≡ encodeOf (now (frame .entry)) ⌝ }
+{
+    if frame.len() != 26 {
+        return;
+    }
+    let word = words::received(frame);
+    let parity = encoder::parity(&word);
+    let high = words::number(&parity, 0, 41);
+    let low = words::number(&parity, 41, 41);
+    bits::put(frame, 122, 41, high);
+    bits::put(frame, 163, 41, low);
 }

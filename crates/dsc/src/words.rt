@@ -82,3 +82,15 @@ pub fn word_bytes(w: &[bool]) -> [u8; 26]
     }
     b
 }
+
+// The n bits from bit k on, as a number.
+pub fn number(b: &[bool], k: usize, n: usize) -> u64
+    requires { ⌜ (k + n ≤ length (now b)) × (n ≤ 64) ⌝ }
+    ensures { λ r. ⌜ r ≡ value (take n (drop k (now (b .entry)))) ⌝ }
+{
+    let mut v = 0;
+    for i in 0..n {
+        v = v * 2 + one(b[k + i]) as u64;
+    }
+    v
+}

@@ -1,0 +1,83 @@
+-- The worked examples of the repair hold. Assumes nothing.
+use mathlib.Core.Path.{_≡_, refl, sym, ap, _∙_}
+use mathlib.Core.Bool.{Bool, true, false, false≢true}
+use mathlib.Core.List.{List, [], _∷_}
+use Prim.Native.Nat.{ℕ, suc, _+_, _≤_}
+use native.Mathlib.Nat.{suc-inj}
+use native.Mathlib.Omega.{arith}
+use lib.ListN.{length}
+use Rattle.gf2.specs.Polynomial.{zeros, add, scale, poly, member, remainder}
+use Rattle.gf2.proofs.Sum.{add-to-zeros}
+use Rattle.dsc.specs.Code.{powers, generatorLow, CodeWord, weight, dist, allZero, isCodeWord}
+use Rattle.dsc.specs.Repair.{protected, repairedTo, refusedWith, repairOf}
+use Rattle.dsc.specs.Worked.{generatorWord, among, SomePlaces, Worked}
+use Rattle.dsc.proofs.Word.{length-word, tested-word}
+use Rattle.dsc.proofs.Distance.{close-equal, dist-comm, dist-triangle, dist-same}
+use Rattle.dsc.proofs.Answers.{length-protected, repair-found, repair-none}
+
+zero-word : CodeWord (zeros 187)
+unfolding isCodeWord allZero remainder add scale generatorLow powers poly member
+zero-word = tested-word (zeros 187) refl refl
+
+generator-word : CodeWord generatorWord
+unfolding isCodeWord allZero remainder add scale generatorLow generatorWord powers poly member
+generator-word = tested-word generatorWord refl refl
+
+generator-ones : weight generatorWord ≡ 18
+unfolding generatorWord powers poly member
+generator-ones = refl
+
+-- from the zero word a word differs in as many places as it has ones
+from-zeros : (r : List Bool) → length r ≡ 187 → dist r (zeros 187) ≡ weight r
+from-zeros r h = ap weight (ap (λ n. add r (zeros n)) (sym h) ∙ add-to-zeros r)
+
+-- from the generator, in those of its places that are not set
+from-among : (r w : List Bool) → length r ≡ length w → among r w ≡ true → dist r w + weight r ≡ weight w
+unfolding add among
+from-among [] [] h e = refl
+from-among [] (b ∷ w) h e = absurd (omega arith)
+from-among (a ∷ r) [] h e = absurd (omega arith)
+from-among (true ∷ r) (true ∷ w) h e = omega (arith, from-among r w (suc-inj h) e)
+from-among (true ∷ r) (false ∷ w) h e = absurd (false≢true e)
+from-among (false ∷ r) (true ∷ w) h e = omega (arith, from-among r w (suc-inj h) e)
+from-among (false ∷ r) (false ∷ w) h e = omega (arith, from-among r w (suc-inj h) e)
+
+example1-clean : (f : List ℕ) → length f ≡ 26 → protected f ≡ zeros 187 → repairOf f ≡ repairedTo (zeros 187) 0
+example1-clean f h e =
+    let d : dist (protected f) (zeros 187) ≡ 0 = ap (λ r. dist r (zeros 187)) e ∙ dist-same (zeros 187) in
+    repair-found f h (zeros 187) zero-word (omega arith) ∙ ap (repairedTo (zeros 187)) d
+
+example3 : (f : List ℕ) → SomePlaces 8 f → repairOf f ≡ repairedTo (zeros 187) 8
+example3 f s =
+    let d : dist (protected f) (zeros 187) ≡ 8 = from-zeros (protected f) (length-protected f (s .size)) ∙ s .number in
+    repair-found f (s .size) (zeros 187) zero-word (omega arith) ∙ ap (repairedTo (zeros 187)) d
+
+-- a code word within eight places of nine ones would be within 17 of the zero word, and so the zero word
+example4 : (f : List ℕ) → SomePlaces 9 f → repairOf f ≡ refusedWith 4
+example4 f s =
+    repair-none f (s .size) λ c k d.
+    let r = protected f in
+    let l : length r ≡ 187 = length-protected f (s .size) in
+    let z : dist r (zeros 187) ≡ 9 = from-zeros r l ∙ s .number in
+    let t : dist (zeros 187) c ≤ dist r (zeros 187) + dist r c = dist-triangle r (zeros 187) c l (l ∙ sym (length-word c k)) in
+    let e : zeros 187 ≡ c = close-equal (zeros 187) c zero-word k (omega arith) in
+    omega (arith, ap (dist r) e)
+
+example5 : (f : List ℕ) → SomePlaces 10 f → repairOf f ≡ repairedTo generatorWord 8
+example5 f s =
+    let r = protected f in
+    let l : length r ≡ length generatorWord = length-protected f (s .size) ∙ sym (length-word generatorWord generator-word) in
+    let d : dist r generatorWord ≡ 8 = omega (arith, from-among r generatorWord l (s .places), s .number, generator-ones) in
+    repair-found f (s .size) generatorWord generator-word (omega arith) ∙ ap (repairedTo generatorWord) d
+
+pub worked : Worked
+worked =
+    record {
+      example1 = zero-word;
+      example1-clean = example1-clean;
+      example2 = generator-word;
+      example2-ones = generator-ones;
+      example3 = example3;
+      example4 = example4;
+      example5 = example5;
+    }

@@ -1,0 +1,65 @@
+-- `dsc::encoder::shifted` meets its contract. Assumes nothing.
+use borrow.Author.Needs.{needs}
+use mathlib.Core.Path.{_≡_}
+use mathlib.Core.Bool.{false}
+use mathlib.Core.List.{_++_}
+use Prim.Native.Nat.{_≤_, _-_}
+use native.Mathlib.Omega.{arith}
+use lib.ListN.{length, take, length-append}
+use lib.Seq.{ext-getD, length-take-le}
+use Rattle.gf2.specs.Polynomial.{zeros}
+use Rattle.dsc.specs.Engine.{at}
+use Rattle.dsc.proofs.Steps.{Filled, filled-next}
+use Rattle.dsc.proofs.encoder.shifted.Statement.{statement}
+use Rattle.dsc.proofs.encoder.shifted.Tie as tie
+
+abbrev Inv-loop : tie.InvT-loop
+Inv-loop w d₀ n₀ d n = (n ≤ 187) × (length d ≡ 187) × Filled false (at (take 105 w ++ zeros 82)) n d
+
+abbrev μ-loop : tie.MeasureT-loop
+μ-loop w d₀ n₀ d n = 187 - n
+
+loop-holds : tie.Need-loop-holds Inv-loop μ-loop
+loop-holds c = (omega arith, omega arith, λ k h. absurd (omega arith))
+
+shifted-bit-requires : tie.Need-shifted-bit-requires Inv-loop μ-loop
+shifted-bit-requires c κs = search needs
+
+array-write-d : tie.Need-array-write-d Inv-loop μ-loop
+array-write-d c = search needs
+
+add-n : tie.Need-add-n Inv-loop μ-loop
+add-n c = search needs
+
+loop-less : tie.Need-loop-less Inv-loop μ-loop
+loop-less c = search needs
+
+loop-again : tie.Need-loop-again Inv-loop μ-loop
+loop-again c =
+    let a = c .before .before in
+    let m = take 105 (a .before .before .args .w .now) in (
+      omega arith,
+      search needs,
+      filled-next false (at (m ++ zeros 82)) (a .loop .n) (a .loop .d) (c .shifted-bit .result) (omega arith) (c .shifted-bit .ensures) (a .loop .inv .2),
+    )
+
+returns : tie.Need-returns Inv-loop μ-loop
+returns c =
+    let a = c .before in
+    let w = a .before .before .args .w .now in
+    ext-getD false (a .loop .d) (take 105 w ++ zeros 82) (omega (arith, length-append (take 105 w) (zeros 82), length-take-le 105 w (omega arith)))
+    (λ k h. a .loop .inv .2 k (omega arith))
+
+pub shifted-spec : {M : Type 1} → statement M
+shifted-spec =
+    tie.close
+    (tie.spec
+    Inv-loop
+    μ-loop
+    loop-holds
+    shifted-bit-requires
+    array-write-d
+    add-n
+    loop-less
+    loop-again
+    returns)
