@@ -6,6 +6,7 @@ ghost use lib.ListN.{length, take, drop};
 ghost use Rattle.gf2.specs.Polynomial.{zeros, add, remainder};
 ghost use Rattle.dsc.specs.Code.{generatorLow, parityOf};
 ghost use Rattle.dsc.specs.Engine.{at};
+use crate::words;
 
 // The 82 coefficients of the generator below x^82, from x^81 down.
 const LOW: [bool; 82] = [
@@ -136,7 +137,7 @@ fn shifted(w: &[bool]) -> [bool; 187]
     requires { ⌜ length (now w) ≡ 187 ⌝ }
     ensures { λ r. ⌜ r ≡ take 105 (now (w .entry)) ++ zeros 82 ⌝ }
 {
-    let mut d = [false; 187];
+    let mut d = words::clear();
     for n in 0..187 {
         d[n] = shifted_bit(w, n);
     }

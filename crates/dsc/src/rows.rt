@@ -24,6 +24,13 @@ fn row_through(t: &[u16], p: usize, i: usize) -> usize
     if q <= p { p - q } else { p + 273 - q }
 }
 
+// A bit for each of the 273 places or rows. The literal stands in a function of its own so that no loop's proof carries its elements.
+fn clear() -> [bool; 273]
+    ensures { λ r. ⌜ length r ≡ 273 ⌝ }
+{
+    [false; 273]
+}
+
 // The coefficient of x^p: the places past 186 hold 0.
 fn coefficient(w: &[bool], p: usize) -> bool
     requires { ⌜ length (now w) ≡ 187 ⌝ }
@@ -37,7 +44,7 @@ fn coefficients(w: &[bool]) -> [bool; 273]
     requires { ⌜ length (now w) ≡ 187 ⌝ }
     ensures { λ r. ⌜ Coefficients (now (w .entry)) r ⌝ }
 {
-    let mut c = [false; 273];
+    let mut c = clear();
     for p in 0..273 {
         c[p] = coefficient(w, p);
     }
@@ -83,7 +90,7 @@ fn row_sums(t: &[u16], c: &[bool]) -> [bool; 273]
     requires { ⌜ CheckTable (now t) × (length (now c) ≡ 273) ⌝ }
     ensures { λ r. ⌜ RowSums (now (c .entry)) r ⌝ }
 {
-    let mut f = [false; 273];
+    let mut f = clear();
     for s in 0..273 {
         f[s] = row_sum(t, c, s);
     }
@@ -107,7 +114,7 @@ fn flip_majority(t: &[u16], r: &[bool], f: &[bool]) -> [bool; 187]
     requires { ⌜ CheckTable (now t) × (length (now r) ≡ 187) × (length (now f) ≡ 273) × ((s : ℕ) → s < 273 → at (now f) s ≡ syndrome (now r) s) ⌝ }
     ensures { λ w. ⌜ w ≡ flipped (now (r .entry)) (now (r .entry)) ⌝ }
 {
-    let mut w = [false; 187];
+    let mut w = words::clear();
     for n in 0..187 {
         w[n] = r[n] != (9 <= failure_count(t, f, 186 - n));
     }

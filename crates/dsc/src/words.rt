@@ -7,6 +7,13 @@ ghost use Rattle.dsc.specs.Code.{bit, dist};
 ghost use Rattle.dsc.specs.Repair.{protected, wordBytes};
 ghost use Rattle.dsc.specs.Engine.{at, padded};
 
+// 187 bits, to be filled. The literal stands in a function of its own so that no loop's proof carries its elements.
+pub fn clear() -> [bool; 187]
+    ensures { λ r. ⌜ length r ≡ 187 ⌝ }
+{
+    [false; 187]
+}
+
 // Bit k of a frame.
 fn frame_bit(f: &[u8], k: usize) -> bool
     requires { ⌜ (length (now f) ≡ 26) × (k < 208) ⌝ }
@@ -20,7 +27,7 @@ pub fn received(f: &[u8]) -> [bool; 187]
     requires { ⌜ length (now f) ≡ 26 ⌝ }
     ensures { λ r. ⌜ r ≡ protected (now (f .entry)) ⌝ }
 {
-    let mut w = [false; 187];
+    let mut w = clear();
     for n in 0..187 {
         w[n] = frame_bit(f, 17 + n);
     }

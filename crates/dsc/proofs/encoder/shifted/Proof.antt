@@ -19,6 +19,9 @@ Inv-loop w d₀ n₀ d n = (n ≤ 187) × (length d ≡ 187) × Filled false (at
 abbrev μ-loop : tie.MeasureT-loop
 μ-loop w d₀ n₀ d n = 187 - n
 
+clear-requires : tie.Need-clear-requires Inv-loop μ-loop
+clear-requires c κs = search needs
+
 loop-holds : tie.Need-loop-holds Inv-loop μ-loop
 loop-holds c = (omega arith, omega arith, λ k h. absurd (omega arith))
 
@@ -37,7 +40,7 @@ loop-less c = search needs
 loop-again : tie.Need-loop-again Inv-loop μ-loop
 loop-again c =
     let a = c .before .before in
-    let m = take 105 (a .before .before .args .w .now) in (
+    let m = take 105 (a .before .before .before .args .w .now) in (
       omega arith,
       search needs,
       filled-next false (at (m ++ zeros 82)) (a .loop .n) (a .loop .d) (c .shifted-bit .result) (omega arith) (c .shifted-bit .ensures) (a .loop .inv .2),
@@ -46,7 +49,7 @@ loop-again c =
 returns : tie.Need-returns Inv-loop μ-loop
 returns c =
     let a = c .before in
-    let w = a .before .before .args .w .now in
+    let w = a .before .before .before .args .w .now in
     ext-getD false (a .loop .d) (take 105 w ++ zeros 82) (omega (arith, length-append (take 105 w) (zeros 82), length-take-le 105 w (omega arith)))
     (λ k h. a .loop .inv .2 k (omega arith))
 
@@ -56,6 +59,7 @@ shifted-spec =
     (tie.spec
     Inv-loop
     μ-loop
+    clear-requires
     loop-holds
     shifted-bit-requires
     array-write-d

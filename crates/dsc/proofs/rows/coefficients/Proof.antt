@@ -16,6 +16,9 @@ Inv-loop w c₀ p₀ c p = (p ≤ 273) × (length c ≡ 273) × Filled false (co
 abbrev μ-loop : tie.MeasureT-loop
 μ-loop w c₀ p₀ c p = 273 - p
 
+clear-requires : tie.Need-clear-requires Inv-loop μ-loop
+clear-requires c κs = search needs
+
 loop-holds : tie.Need-loop-holds Inv-loop μ-loop
 loop-holds c = (omega arith, omega arith, λ k h. absurd (omega arith))
 
@@ -34,7 +37,7 @@ loop-less c = search needs
 loop-again : tie.Need-loop-again Inv-loop μ-loop
 loop-again c =
     let a = c .before .before in
-    let w = a .before .before .args .w .now in (
+    let w = a .before .before .before .args .w .now in (
       omega arith,
       search needs,
       filled-next false (coefficient w) (a .loop .p) (a .loop .c) (c .coefficient .result) (omega arith) (c .coefficient .ensures) (a .loop .inv .2),
@@ -49,6 +52,7 @@ coefficients-spec =
     (tie.spec
     Inv-loop
     μ-loop
+    clear-requires
     loop-holds
     coefficient-requires
     array-write-c

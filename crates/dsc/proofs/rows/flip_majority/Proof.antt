@@ -22,6 +22,9 @@ Inv-loop t r f w₀ n₀ w n = (n ≤ 187) × (length w ≡ 187) × Filled false
 abbrev μ-loop : tie.MeasureT-loop
 μ-loop t r f w₀ n₀ w n = 187 - n
 
+clear-requires : tie.Need-clear-requires Inv-loop μ-loop
+clear-requires c κs = search needs
+
 loop-holds : tie.Need-loop-holds Inv-loop μ-loop
 loop-holds c = (omega arith, omega arith, λ k h. absurd (omega arith))
 
@@ -46,7 +49,7 @@ loop-less c = search needs
 loop-again : tie.Need-loop-again Inv-loop μ-loop
 loop-again c =
     let a = c .before .before .before in
-    let s = a .before .before .before .before in
+    let s = a .before .before .before .before .before in
     let r = s .args .r .now in
     let f = s .args .f .now in
     let n = a .loop .n in (
@@ -62,7 +65,7 @@ loop-again c =
 returns : tie.Need-returns Inv-loop μ-loop
 returns c =
     let a = c .before in
-    let r = a .before .before .before .before .args .r .now in
+    let r = a .before .before .before .before .before .args .r .now in
     ext-getD false (a .loop .w) (flipped r r) (omega (arith, length-flipped r r)) (λ k h. a .loop .inv .2 k (omega arith))
 
 pub flip-majority-spec : {M : Type 1} → statement M
@@ -71,6 +74,7 @@ flip-majority-spec =
     (tie.spec
     Inv-loop
     μ-loop
+    clear-requires
     loop-holds
     shared-slice-read-w
     sub-failure-count

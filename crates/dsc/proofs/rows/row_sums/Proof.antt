@@ -16,6 +16,9 @@ Inv-loop t c f₀ s₀ f s = (s ≤ 273) × (length f ≡ 273) × Filled false (
 abbrev μ-loop : tie.MeasureT-loop
 μ-loop t c f₀ s₀ f s = 273 - s
 
+clear-requires : tie.Need-clear-requires Inv-loop μ-loop
+clear-requires c κs = search needs
+
 loop-holds : tie.Need-loop-holds Inv-loop μ-loop
 loop-holds c = (omega arith, omega arith, λ k h. absurd (omega arith))
 
@@ -34,7 +37,7 @@ loop-less c = search needs
 loop-again : tie.Need-loop-again Inv-loop μ-loop
 loop-again c =
     let a = c .before .before in
-    let w = a .before .before .before .args .c .now in (
+    let w = a .before .before .before .before .args .c .now in (
       omega arith,
       search needs,
       filled-next false (rowSum w) (a .loop .s) (a .loop .f) (c .row-sum .result) (omega arith) (c .row-sum .ensures) (a .loop .inv .2),
@@ -49,6 +52,7 @@ row-sums-spec =
     (tie.spec
     Inv-loop
     μ-loop
+    clear-requires
     loop-holds
     row-sum-requires
     array-write-f

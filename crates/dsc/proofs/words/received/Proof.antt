@@ -20,6 +20,9 @@ Inv-loop f w₀ n₀ w n = (n ≤ 187) × (length w ≡ 187) × Filled false (at
 abbrev μ-loop : tie.MeasureT-loop
 μ-loop f w₀ n₀ w n = 187 - n
 
+clear-requires : tie.Need-clear-requires Inv-loop μ-loop
+clear-requires c κs = search needs
+
 loop-holds : tie.Need-loop-holds Inv-loop μ-loop
 loop-holds c = (omega arith, omega arith, λ k h. absurd (omega arith))
 
@@ -41,7 +44,7 @@ loop-less c = search needs
 loop-again : tie.Need-loop-again Inv-loop μ-loop
 loop-again c =
     let a = c .before .before in
-    let f = a .before .before .args .f .now in (
+    let f = a .before .before .before .args .f .now in (
       omega arith,
       search needs,
       filled-next false (at (protected f)) (a .loop .n) (a .loop .w) (c .frame-bit .result) (omega arith) (c .frame-bit .ensures ∙ sym (protected-at f (a .loop .n) (omega arith))) (a .loop .inv .2),
@@ -50,7 +53,7 @@ loop-again c =
 returns : tie.Need-returns Inv-loop μ-loop
 returns c =
     let a = c .before in
-    let s = a .before .before in
+    let s = a .before .before .before in
     let f = s .args .f .now in
     ext-getD false (a .loop .w) (protected f) (omega (arith, length-protected f (s .pre))) (λ k h. a .loop .inv .2 k (omega arith))
 
@@ -60,6 +63,7 @@ received-spec =
     (tie.spec
     Inv-loop
     μ-loop
+    clear-requires
     loop-holds
     add-frame-bit
     frame-bit-requires
