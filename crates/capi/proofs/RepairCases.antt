@@ -1,0 +1,58 @@
+-- What `gvz_repair` returns and leaves, by the cases that its code tells apart. Assumes nothing.
+use mathlib.Core.Path.{_≡_, refl, ap, _∙_}
+use mathlib.Core.Bool.{Bool, true, false, cond}
+use mathlib.Core.List.{List, _++_, append-nil}
+use mathlib.Core.Logic.{_≢_}
+use Prim.Native.Nat.{ℕ, _*_, _≤_}
+use native.Mathlib.Omega.{arith}
+use lib.Dec.{eqb}
+use lib.ListN.{length, take, drop, drop-of-length-le}
+use lib.Seq.{take-length}
+use borrow.Author.Tests.{eq-eqb, ne-eqb}
+use Rattle.dsc.specs.Repair.{protected, Decoded, corrected, beyond, decode, answerTo, repairedTo, refusedWith, repairOf}
+use Rattle.dsc.specs.declared.Answer.{Answer}
+use Rattle.dsc.specs.declared.Outcome.the-variants as outcome
+use Rattle.dsc.proofs.Answers.{length-wordBytes}
+use Rattle.capi.specs.Repair.{repairStatus, repairWord}
+
+-- what holds of each of the repair's three answers holds of its answer to f
+answered : (f : List ℕ) (P : Answer → Type 0) → ((c : List Bool) (n : ℕ) → P (repairedTo c n)) → P (refusedWith 4) → P (refusedWith 1) → P (repairOf f)
+unfolding repairOf answerTo
+answered f P found none short = go (eqb (length f) 26) (decode (protected f))
+  where
+    go : (t : Bool) (d : Decoded) → P (cond t (answerTo (protected f) d) (refusedWith 1))
+    go true (corrected c) = found c _
+    go true beyond = none
+    go false d = short
+
+-- a copy into a buffer of the same length replaces all of it
+copied : (s d : List ℕ) → length s ≡ length d → take (length s) s ++ drop (length s) d ≡ s
+copied s d h = let z : length d ≤ length s = omega arith in rw (take-length s, drop-of-length-le d z) (append-nil s)
+
+pub wrong-buffer : (f w : List ℕ) → length w ≢ 26 → (1 ≡ repairStatus f w) × (w ≡ repairWord f w)
+unfolding repairStatus repairWord
+wrong-buffer f w h = rw (ne-eqb (length w) 26 h) (refl, refl)
+
+module _ (f : List ℕ) (a : Answer) (answer : a ≡ repairOf f) where
+  pub word-length : length (a .word) ≡ 26
+  word-length = rw answer (answered f (λ r. length (r .word) ≡ 26) (λ c n. length-wordBytes c) refl refl)
+
+  -- no refusal has the number 0
+  refusal-number : (n : ℕ) → a .outcome ≡ outcome.Refused n → n ≢ 0
+  refusal-number n =
+      rw answer
+      (answered f (λ r. r .outcome ≡ outcome.Refused n → n ≢ 0)
+      (λ c k e z. let x : _≡_ {A = ℕ} 0 1 = cc in omega arith)
+      (λ e z. let x : 4 ≡ n = cc in omega arith)
+      (λ e z. let x : 1 ≡ n = cc in omega arith))
+
+  module _ (w : List ℕ) (h : length w ≡ 26) (n : ℕ) where
+    -- g is what a copy of the answer's word leaves
+    pub repaired : (g : List ℕ) → a .outcome ≡ outcome.Repaired n → g ≡ take (length (a .word)) (a .word) ++ drop (length (a .word)) w
+        → (256 * n ≡ repairStatus f w) × (g ≡ repairWord f w)
+    unfolding repairStatus repairWord
+    repaired g e k = rw (eq-eqb (length w) 26 h, ← answer, e) (omega arith, k ∙ copied (a .word) w (omega (arith, word-length)))
+
+    pub refused : a .outcome ≡ outcome.Refused n → (n ≡ repairStatus f w) × (w ≡ repairWord f w)
+    unfolding repairStatus repairWord
+    refused e = rw (eq-eqb (length w) 26 h, ← answer, e, ne-eqb n 0 (refusal-number n e)) (omega arith, refl)
