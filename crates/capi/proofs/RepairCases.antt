@@ -1,9 +1,9 @@
 -- What `gvz_repair` returns and leaves, by the cases that its code tells apart. Assumes nothing.
-use mathlib.Core.Path.{_≡_, refl, ap, _∙_}
+use mathlib.Core.Path.{_≡_, refl, _∙_}
 use mathlib.Core.Bool.{Bool, true, false, cond}
 use mathlib.Core.List.{List, _++_, append-nil}
 use mathlib.Core.Logic.{_≢_}
-use Prim.Native.Nat.{ℕ, _*_, _≤_}
+use Prim.Native.Nat.{ℕ, _≤_}
 use native.Mathlib.Omega.{arith}
 use lib.Dec.{eqb}
 use lib.ListN.{length, take, drop, drop-of-length-le}
@@ -13,6 +13,7 @@ use Rattle.dsc.specs.Repair.{protected, Decoded, corrected, beyond, decode, ans
 use Rattle.dsc.specs.declared.Answer.{Answer}
 use Rattle.dsc.specs.declared.Outcome.the-variants as outcome
 use Rattle.dsc.proofs.Answers.{length-wordBytes}
+use Rattle.capi.specs.Status.{statusOf}
 use Rattle.capi.specs.Repair.{repairStatus, repairWord}
 
 -- what holds of each of the repair's three answers holds of its answer to f
@@ -29,7 +30,7 @@ answered f P found none short = go (eqb (length f) 26) (decode (protected f))
 copied : (s d : List ℕ) → length s ≡ length d → take (length s) s ++ drop (length s) d ≡ s
 copied s d h = let z : length d ≤ length s = omega arith in rw (take-length s, drop-of-length-le d z) (append-nil s)
 
-pub wrong-buffer : (f w : List ℕ) → length w ≢ 26 → (1 ≡ repairStatus f w) × (w ≡ repairWord f w)
+pub wrong-buffer : (f w : List ℕ) → length w ≢ 26 → (statusOf 1 0 ≡ repairStatus f w) × (w ≡ repairWord f w)
 unfolding repairStatus repairWord
 wrong-buffer f w h = rw (ne-eqb (length w) 26 h) (refl, refl)
 
@@ -49,10 +50,10 @@ module _ (f : List ℕ) (a : Answer) (answer : a ≡ repairOf f) where
   module _ (w : List ℕ) (h : length w ≡ 26) (n : ℕ) where
     -- g is what a copy of the answer's word leaves
     pub repaired : (g : List ℕ) → a .outcome ≡ outcome.Repaired n → g ≡ take (length (a .word)) (a .word) ++ drop (length (a .word)) w
-        → (256 * n ≡ repairStatus f w) × (g ≡ repairWord f w)
+        → (statusOf 0 n ≡ repairStatus f w) × (g ≡ repairWord f w)
     unfolding repairStatus repairWord
-    repaired g e k = rw (eq-eqb (length w) 26 h, ← answer, e) (omega arith, k ∙ copied (a .word) w (omega (arith, word-length)))
+    repaired g e k = rw (eq-eqb (length w) 26 h, ← answer, e) (refl, k ∙ copied (a .word) w (omega (arith, word-length)))
 
-    pub refused : a .outcome ≡ outcome.Refused n → (n ≡ repairStatus f w) × (w ≡ repairWord f w)
+    pub refused : a .outcome ≡ outcome.Refused n → (statusOf n 0 ≡ repairStatus f w) × (w ≡ repairWord f w)
     unfolding repairStatus repairWord
-    refused e = rw (eq-eqb (length w) 26 h, ← answer, e, ne-eqb n 0 (refusal-number n e)) (omega arith, refl)
+    refused e = rw (eq-eqb (length w) 26 h, ← answer, e, ne-eqb n 0 (refusal-number n e)) (refl, refl)

@@ -8,7 +8,7 @@ use Rattle.dsc.specs.Repair.{numberOf, repairOf}
 use Rattle.dsc.specs.declared.Outcome.{Outcome}
 use Rattle.dsc.specs.declared.Outcome.the-variants as outcome
 use Rattle.dsc.specs.declared.Answer.{Answer}
-use Rattle.capi.specs.Status.{status}
+use Rattle.capi.specs.Status.{statusOf}
 
 -- the number of repaired places, 0 on a refusal
 abbrev pub placesOf : Answer → ℕ
@@ -20,7 +20,7 @@ placesOf a = places (a .outcome)
 
 -- a buffer of another length than 26 bytes is 1, else it is the repair's answer
 unfoldable pub repairStatus : (f w : List ℕ) → ℕ
-repairStatus f w = cond (eqb (length w) 26) (status (numberOf (repairOf f)) (placesOf (repairOf f))) (status 1 0)
+repairStatus f w = cond (eqb (length w) 26) (statusOf (numberOf (repairOf f)) (placesOf (repairOf f))) (statusOf 1 0)
 
 -- the repaired word where nothing was refused, else what was there
 unfoldable pub repairWord : (f w : List ℕ) → List ℕ

@@ -4,3 +4,4 @@
 // none, and above them 256 times the number of repaired places. A buffer whose length is wrong is refusal 1, before anything else is
 // looked at, and a refusal leaves every lent buffer as it was.
 pub mod repair;
+mod status;

@@ -1,13 +1,8 @@
 // The repair asked for alone.
+use crate::status::status;
 use dsc::Outcome;
 ghost use mathlib.Core.Path.{_≡_};
 ghost use Rattle.capi.specs.Repair.{repairStatus, repairWord};
-
-fn wide(x: u8) -> u32
-    ensures { λ r. ⌜ r ≡ x ⌝ }
-{
-    x as u32
-}
 
 // Writes the repaired word, B17 to B203 at their places and 0 elsewhere, into the 26 bytes of `word`.
 #[no_mangle]
@@ -16,7 +11,7 @@ pub extern "C" fn gvz_repair(frame: &[u8], word: &mut [u8]) -> u32
     ensures { λ _. ⌜ now (word .exit) ≡ repairWord (now (frame .entry)) (now (word .entry)) ⌝ }
 {
     if word.len() != 26 {
-        return 1;
+        return status(1, 0);
     }
     let answer = dsc::repair(frame);
     let outcome = answer.outcome;
@@ -24,8 +19,8 @@ pub extern "C" fn gvz_repair(frame: &[u8], word: &mut [u8]) -> u32
         Outcome::Repaired(places) => {
             let repaired = answer.word;
             bytes::copy(&repaired, word);
-            256 * wide(places)
+            status(0, places)
         }
-        Outcome::Refused(number) => wide(number),
+        Outcome::Refused(number) => status(number, 0),
     }
 }
