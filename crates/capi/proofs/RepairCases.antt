@@ -1,30 +1,18 @@
 -- What `gvz_repair` returns and leaves, by the cases that its code tells apart. Assumes nothing.
 use mathlib.Core.Path.{_≡_, refl, _∙_}
-use mathlib.Core.Bool.{Bool, true, false, cond}
 use mathlib.Core.List.{List, _++_, append-nil}
 use mathlib.Core.Logic.{_≢_}
 use Prim.Native.Nat.{ℕ, _≤_}
 use native.Mathlib.Omega.{arith}
-use lib.Dec.{eqb}
 use lib.ListN.{length, take, drop, drop-of-length-le}
 use lib.Seq.{take-length}
 use borrow.Author.Tests.{eq-eqb, ne-eqb}
-use Rattle.dsc.specs.Repair.{protected, Decoded, corrected, beyond, decode, answerTo, repairedTo, refusedWith, repairOf}
+use Rattle.dsc.specs.Repair.{repairOf}
 use Rattle.dsc.specs.declared.Answer.{Answer}
 use Rattle.dsc.specs.declared.Outcome.the-variants as outcome
-use Rattle.dsc.proofs.Answers.{length-wordBytes}
+use Rattle.dsc.proofs.Answers.{length-wordBytes, answered}
 use Rattle.capi.specs.Status.{statusOf}
 use Rattle.capi.specs.Repair.{repairStatus, repairWord}
-
--- what holds of each of the repair's three answers holds of its answer to f
-answered : (f : List ℕ) (P : Answer → Type 0) → ((c : List Bool) (n : ℕ) → P (repairedTo c n)) → P (refusedWith 4) → P (refusedWith 1) → P (repairOf f)
-unfolding repairOf answerTo
-answered f P found none short = go (eqb (length f) 26) (decode (protected f))
-  where
-    go : (t : Bool) (d : Decoded) → P (cond t (answerTo (protected f) d) (refusedWith 1))
-    go true (corrected c) = found c _
-    go true beyond = none
-    go false d = short
 
 -- a copy into a buffer of the same length replaces all of it
 copied : (s d : List ℕ) → length s ≡ length d → take (length s) s ++ drop (length s) d ≡ s
