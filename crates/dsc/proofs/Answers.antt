@@ -61,6 +61,16 @@ pub repair-short : (f : List ℕ) → length f ≢ 26 → repairOf f ≡ refused
 unfolding repairOf
 repair-short f h = rw (ne-eqb (length f) 26 h)
 
+-- what holds of each of the repair's three answers holds of its answer to f
+pub answered : (f : List ℕ) (P : Answer → Type 0) → ((c : List Bool) (n : ℕ) → P (repairedTo c n)) → P (refusedWith 4) → P (refusedWith 1) → P (repairOf f)
+unfolding repairOf answerTo
+answered f P fixed far short = go (eqb (length f) 26) (decode (protected f))
+  where
+    go : (t : Bool) (d : Decoded) → P (cond t (answerTo (protected f) d) (refusedWith 1))
+    go true (corrected c) = fixed c _
+    go true beyond = far
+    go false d = short
+
 module _ (f : List ℕ) (h : length f ≡ 26) where
   pub repair-decoded : (d : Decoded) → decode (protected f) ≡ d → repairOf f ≡ answerTo (protected f) d
   unfolding repairOf

@@ -1,0 +1,27 @@
+-- What `gvz_repair` returns and what it leaves in its buffer, of the frame's bytes f and the buffer's bytes w. Assumes nothing.
+use mathlib.Core.Bool.{cond}
+use mathlib.Core.List.{List}
+use Prim.Native.Nat.{ℕ}
+use lib.Dec.{eqb}
+use lib.ListN.{length}
+use Rattle.dsc.specs.Repair.{numberOf, repairOf}
+use Rattle.dsc.specs.declared.Outcome.{Outcome}
+use Rattle.dsc.specs.declared.Outcome.the-variants as outcome
+use Rattle.dsc.specs.declared.Answer.{Answer}
+use Rattle.capi.specs.Status.{statusOf}
+
+-- the number of repaired places, 0 on a refusal
+abbrev pub placesOf : Answer → ℕ
+placesOf a = places (a .outcome)
+  where
+    places : Outcome → ℕ
+    places (outcome.Repaired n) = n
+    places (outcome.Refused n) = 0
+
+-- a buffer of another length than 26 bytes is 1, else it is the repair's answer
+unfoldable pub repairStatus : (f w : List ℕ) → ℕ
+repairStatus f w = cond (eqb (length w) 26) (statusOf (numberOf (repairOf f)) (placesOf (repairOf f))) (statusOf 1 0)
+
+-- the repaired word where nothing was refused, else what was there
+unfoldable pub repairWord : (f w : List ℕ) → List ℕ
+repairWord f w = cond (eqb (length w) 26) (cond (eqb (numberOf (repairOf f)) 0) (repairOf f .word) w) w

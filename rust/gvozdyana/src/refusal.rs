@@ -1,0 +1,62 @@
+use std::error::Error;
+use std::fmt;
+
+/// Declares the enum, its numbers and its words from one table.
+macro_rules! refusals {
+    ($($name:ident = $number:literal, $words:literal;)*) => {
+        /// Why the box says no.
+        #[derive(Clone, Copy, Debug, PartialEq, Eq, Hash)]
+        #[repr(u8)]
+        pub enum Refusal {
+            $(#[doc = $words] $name = $number,)*
+        }
+
+        impl Refusal {
+            /// The refusal with this number, 1 to 15.
+            pub fn from_number(number: u8) -> Option<Refusal> {
+                match number {
+                    $($number => Some(Refusal::$name),)*
+                    _ => None,
+                }
+            }
+
+            fn words(self) -> &'static str {
+                match self {
+                    $(Refusal::$name => $words,)*
+                }
+            }
+        }
+    };
+}
+
+refusals! {
+    WrongLength = 1, "a frame is not 26 bytes, a header is not 188, or a frame number is past the capture";
+    FillerSet = 2, "a filler bit is 1";
+    NoPattern = 3, "B1 to B16 are neither pattern";
+    BeyondRepair = 4, "no code word lies within eight places";
+    FrameCrc = 5, "the CRC differs, in the repaired word";
+    Identification = 6, "the identification is 4, 5 or 6, or above 7 in a record";
+    StartEndOrUpdate = 7, "start/end or update is not as the identification asks";
+    FixedBit = 8, "a bit fixed at 1 is 0";
+    OverLimit = 9, "page 1, kind 0: latitude or longitude is over its limit";
+    Field = 10, "a record to be written has a field wider than its place, or not 0 where none is left free";
+    NoImage = 11, "a double is no field value's image";
+    HeaderSync = 12, "header byte 0 is not 0x47";
+    HeaderCrc = 13, "the header's CRC does not come out zero";
+    MultiplexForm = 14, "the multiplex form is not 0x1";
+    HeaderBits = 15, "a header bit fixed at 1 is 0, or a reception state is 11";
+}
+
+impl Refusal {
+    pub fn number(self) -> u8 {
+        self as u8
+    }
+}
+
+impl fmt::Display for Refusal {
+    fn fmt(&self, f: &mut fmt::Formatter<'_>) -> fmt::Result {
+        write!(f, "refusal {}: {}", self.number(), self.words())
+    }
+}
+
+impl Error for Refusal {}
