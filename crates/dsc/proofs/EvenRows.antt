@@ -1,18 +1,18 @@
 -- A word whose sums are even on all 273 rows is a code word; and the rows 0 to 81 decide already. Assumes nothing.
 use mathlib.Core.Path.{_≡_, refl, sym, ap, ap₂, _∙_}
-use mathlib.Core.Bool.{Bool, true, false, not, _&&_}
+use mathlib.Core.Bool.{Bool, true, false, not, _&&_, and-false}
 use mathlib.Core.List.{List, [], _∷_, _++_}
 use Prim.Native.Nat.{ℕ, zero, suc, _+_, _-_, _%_, _≤_, _<_}
 use native.Mathlib.Omega.{arith}
 use lib.Dec.{T, ltb, ltb→lt}
 use lib.ListN.{length}
 use borrow.Author.Tests.{ltb-true, ltb-false}
+use Rattle.bits.proofs.Computed.{and-left, and-right, T-not, below, below-at, allBelow}
 use Rattle.gf2.specs.Polynomial.{_⊕_, zeros, add, scale, remainder}
 use Rattle.gf2.proofs.Sum.{xor-false, length-add, add-zeros, add-self}
 use Rattle.gf2.proofs.Division.{length-remainder}
 use Rattle.dsc.specs.Code.{powers, generatorLow, CodeWord}
 use Rattle.dsc.specs.CheckTable.{differences, sumOver, syndrome}
-use Rattle.dsc.proofs.Tests.{and-left, and-right, and-false, T-not, below, below-at, allBelow}
 use Rattle.dsc.proofs.Word.{length-low, divided-word}
 use Rattle.dsc.proofs.CheckRows.{sum-xor, sum-and, sum-none, sum-same, onRow, onRow-turn, syndrome-nil, syndrome-cons, syndrome-false, syndrome-generator}
 
@@ -90,7 +90,7 @@ even-zeros (b ∷ r) h e = ap₂ _∷_ none (even-zeros r (omega arith) (λ s hs
         ∙ sym (mixed-cons certificate 100 certificate-below b r (191 + n) (omega arith) (omega arith))
         ∙ mixed-even certificate 100 certificate-below (b ∷ r) (191 + n) (omega arith) e)
 
--- ---- division leaves the sums offsets they are
+-- ---- division leaves the sums as they are
 
 remainder-syndrome : (k : ℕ) (w : List Bool) (s : ℕ) → s < 273 → k ≤ 190 → length w ≡ k + 82 → syndrome (remainder generatorLow k w) s ≡ syndrome w s
 unfolding remainder scale add

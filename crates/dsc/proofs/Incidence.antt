@@ -1,6 +1,6 @@
 -- Each place lies on 17 of the 273 rows, two places on one row together. Assumes nothing.
 use mathlib.Core.Path.{_≡_, refl, sym, ap, ap₂, _∙_}
-use mathlib.Core.Bool.{Bool, true, false, not, _&&_, _||_, Bool·beq}
+use mathlib.Core.Bool.{Bool, true, false, not, _&&_, _||_, Bool·beq, and-true}
 use mathlib.Core.Logic.{_≢_}
 use mathlib.Core.List.{List, [], _∷_, map}
 use Prim.Native.Nat.{ℕ, zero, suc, _+_, _-_, _%_, _≤_, _<_}
@@ -8,10 +8,10 @@ use native.Mathlib.Omega.{arith}
 use lib.Dec.{eqb, ltb, T, ltb→lt}
 use lib.ListN.{length, length-map}
 use borrow.Author.Tests.{ne-eqb, eqb-true, eqb-false}
+use Rattle.bits.proofs.Computed.{and-left, and-right, T-not, T-same, eqb-same, below, below-at, allBelow}
 use Rattle.gf2.specs.Polynomial.{_⊕_, member}
 use Rattle.dsc.specs.Code.{count, bit}
 use Rattle.dsc.specs.CheckTable.{upto, differences, row, rowsOf, sumOver}
-use Rattle.dsc.proofs.Tests.{and-left, and-right, T-not, T-same, eqb-same, below, below-at, allBelow}
 use Rattle.dsc.proofs.CheckRows.{sum-map, sum-same, differences-below, onRow, onRow-difference, isDifference, rows-same, shared-one}
 
 -- ---- counts over 0 .. n - 1
@@ -127,10 +127,6 @@ over-rows p hp q =
     (λ s hs. ap (_&& q s) (member-onRow s p hs hp ∙ onRow-through s p hs hp))
     ∙ through p hp q differences differences-below differences-distinct
 
-and-true : (b : Bool) → b ≡ b && true
-and-true true = refl
-and-true false = refl
-
 count-all : (xs : List ℕ) → count (λ s. true) xs ≡ length xs
 count-all [] = refl
 count-all (x ∷ xs) = omega (arith, count-all xs)
@@ -138,7 +134,7 @@ count-all (x ∷ xs) = omega (arith, count-all xs)
 pub on-seventeen : (p : ℕ) → p < 273 → count (λ s. member p (row s)) (upto 273) ≡ 17
 unfolding differences
 on-seventeen p hp =
-    count-upto 273 (λ s. member p (row s)) (λ s. member p (row s) && true) (λ s hs. and-true (member p (row s)))
+    count-upto 273 (λ s. member p (row s)) (λ s. member p (row s) && true) (λ s hs. sym (and-true (member p (row s))))
     ∙ over-rows p hp (λ s. true)
     ∙ count-all (rowsOf p)
 

@@ -1,4 +1,3 @@
-pub mod Tests
 pub mod Word
 pub mod CheckRows
 pub mod Incidence

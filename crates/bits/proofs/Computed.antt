@@ -1,12 +1,15 @@
--- Tests that antt computes, and what they come to at each number. Assumes nothing.
+-- Tests that antt computes, and what they come to at each number and at each entry of a table. Assumes nothing.
 use mathlib.Core.Path.{_≡_, refl, sym, ap, _∙_}
 use mathlib.Core.Bool.{Bool, true, false, not, _&&_, Bool·beq}
 use mathlib.Core.Logic.{_≢_}
 use mathlib.Core.List.{List, [], _∷_}
-use Prim.Native.Nat.{ℕ, zero, suc, _<_}
+use Prim.Native.Nat.{ℕ, zero, suc, _+_, _<_}
 use native.Mathlib.Omega.{arith}
-use lib.Dec.{eqb, ltb, T}
+use lib.Dec.{T, eqb, ltb, eqb→eq}
+use lib.ListN.{length, getD}
 use borrow.Author.Tests.{eq-eqb, ne-eqb, eqb-true, eqb-false}
+
+-- ---- a test's answer
 
 pub and-left : (a b : Bool) → T (a && b) → T a
 and-left true b t = tt
@@ -15,14 +18,6 @@ and-left false b t = t
 pub and-right : (a b : Bool) → T (a && b) → T b
 and-right true b t = t
 and-right false b t = absurd t
-
-pub and-false : (b : Bool) → b && false ≡ false
-and-false true = refl
-and-false false = refl
-
-pub T-true : (b : Bool) → T b → b ≡ true
-T-true true t = refl
-T-true false t = absurd t
 
 pub T-not : (b : Bool) → T (not b) → b ≡ false
 T-not true t = absurd t
@@ -42,6 +37,8 @@ eqb-same a b c d f g = go (eqb a b) refl
     go true e = e ∙ sym (eq-eqb c d (f (eqb-true a b e)))
     go false e = e ∙ sym (ne-eqb c d (λ h. eqb-false a b e (g h)))
 
+-- ---- at each number
+
 -- the test passes at each number below n
 unfoldable pub below : ℕ → (ℕ → Bool) → Bool
 below zero f = true
@@ -60,3 +57,20 @@ below-at (suc n) f t k h = go (below-at n f (and-right (f n) (below n f) t) k) (
 abbrev pub allBelow : ℕ → List ℕ → Bool
 allBelow n [] = true
 allBelow n (d ∷ ds) = ltb d n && allBelow n ds
+
+-- ---- at each entry of a table
+
+-- the entries from place k on are as the rule f says
+abbrev pub obeys : (ℕ → ℕ) → ℕ → List ℕ → Bool
+obeys f k [] = true
+obeys f k (x ∷ xs) = eqb x (f k) && obeys f (suc k) xs
+
+from : (f : ℕ → ℕ) (k : ℕ) (xs : List ℕ) → T (obeys f k xs) → (i : ℕ) → i < length xs → getD xs i 0 ≡ f (k + i)
+from f k [] t i h = absurd (omega arith)
+from f k (x ∷ xs) t zero h = let e : k ≡ k + 0 = omega arith in eqb→eq x (f k) (and-left (eqb x (f k)) (obeys f (suc k) xs) t) ∙ ap f e
+from f k (x ∷ xs) t (suc i) h =
+    let e : suc k + i ≡ k + suc i = omega arith in
+    from f (suc k) xs (and-right (eqb x (f k)) (obeys f (suc k) xs) t) i (omega arith) ∙ ap f e
+
+pub at-each : (f : ℕ → ℕ) (xs : List ℕ) → T (obeys f 0 xs) → (i : ℕ) → i < length xs → getD xs i 0 ≡ f i
+at-each f xs t i h = let e : 0 + i ≡ i = omega arith in from f 0 xs t i h ∙ ap f e
