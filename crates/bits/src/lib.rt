@@ -35,7 +35,7 @@ fn low_bits(v: u64, n: usize) -> u64
 }
 
 // The smaller of two numbers.
-fn smaller(a: usize, b: usize) -> usize
+pub fn smaller(a: usize, b: usize) -> usize
     ensures { λ r. ⌜ r ≡ min a b ⌝ }
 {
     if a < b {
@@ -45,7 +45,8 @@ fn smaller(a: usize, b: usize) -> usize
 }
 
 // The n bits from bit r of byte q on, as a number: the part of a field that lies in that byte.
-fn read_part(s: &[u8], q: usize, r: usize, n: usize) -> u64
+// It requires that they are there, so that a loop over the parts of a field pays for no test.
+pub fn read_part(s: &[u8], q: usize, r: usize, n: usize) -> u64
     requires { ⌜ (q < length (now s)) × (r + n ≤ 8) ⌝ }
     ensures { λ v. ⌜ v ≡ field (now (s .entry)) (8 * q + r) n ⌝ }
 {

@@ -1,19 +1,17 @@
--- Rows of bits: their sums as numbers, wider rows, longer runs. Assumes nothing.
+-- Rows of bits: their sums as numbers, and wider rows. Assumes nothing.
 use mathlib.Core.Path.{_≡_, refl, sym, ap, _∙_}
 use mathlib.Core.Bool.{Bool, true, false}
 use mathlib.Core.List.{List, [], _∷_, _++_}
-use Prim.Native.Nat.{ℕ, _+_, _*_, _^_, _≤_, _<_}
+use Prim.Native.Nat.{ℕ, _+_, _*_, _^_, _<_}
 use native.Mathlib.Nat.{lt-of-lt-of-le}
 use native.Mathlib.Omega.{arith}
-use lib.ListN.{length, getD, take, drop, length-append, length-replicate}
-use lib.Seq.{drop-drop, take-add}
+use lib.ListN.{length, length-append, length-replicate}
 use lib.Bits.{bitXor, xor-block}
 use lib.Pow.{pow-mono}
 use Rattle.gf2.specs.Polynomial.{_⊕_, zeros, add}
 use Rattle.gf2.proofs.Sum.{length-add}
-use Rattle.bits.specs.Bits.{digit, value, bitsOf, bits}
-use Rattle.bits.proofs.Bits.{length-bitsOf, value-lt, value-inj, value-append, value-zeros, value-bitsOf-fit, take-drop-bitsOf}
-use Rattle.bits.proofs.Field.{take-drop-bits}
+use Rattle.bits.specs.Bits.{digit, value, bitsOf}
+use Rattle.bits.proofs.Bits.{length-bitsOf, value-lt, value-inj, value-append, value-zeros, value-bitsOf-fit}
 
 xor-digit : (a b : Bool) → bitXor (digit a) (digit b) ≡ digit (a ⊕ b)
 unfolding digit
@@ -43,12 +41,3 @@ bitsOf-wider j k v h =
     let w : v < 2 ^ (j + k) = lt-of-lt-of-le h (pow-mono {i = k} {j = j + k} (omega arith)) in
     value-inj (bitsOf (j + k) v) (zeros j ++ bitsOf k v) l
     (value-bitsOf-fit (j + k) v w ∙ sym (value-append (zeros j) (bitsOf k v) ∙ rw (value-zeros j, value-bitsOf-fit k v h) (omega arith)))
-
--- k bits more of a row of bytes, the next of which is bit o of byte q
-pub run-more : (s : List ℕ) (at i q o k : ℕ) → at + i ≡ 8 * q + o → o + k ≤ 8 → q < length s
-    → take (i + k) (drop at (bits s)) ≡ take i (drop at (bits s)) ++ take k (drop o (bitsOf 8 (getD s q 0)))
-run-more s at i q o k e h hq =
-    let d : drop i (drop at (bits s)) ≡ drop (8 * q + o) (bits s) = drop-drop i at (bits s) ∙ ap (λ a. drop a (bits s)) e in
-    let p : take k (drop (8 * q + o) (bits s)) ≡ take k (drop o (bitsOf 8 (getD s q 0))) =
-    take-drop-bits s q o k hq h ∙ sym (take-drop-bitsOf 8 (getD s q 0) o k h) in
-    take-add i k (drop at (bits s)) ∙ ap (take i (drop at (bits s)) ++_) (ap (take k) d ∙ p)

@@ -3,7 +3,7 @@ mod table10;
 mod table32;
 
 ghost use mathlib.Core.Path.{_≡_};
-ghost use Prim.Native.Nat.{_+_, _^_, _<_, _≤_, min};
+ghost use Prim.Native.Nat.{_^_, _<_, _≤_};
 ghost use lib.ListN.{take, drop};
 ghost use Rattle.bits.specs.Bits.{bits, value, bitsOf};
 ghost use Rattle.gf2.specs.Register.{feed};
@@ -43,20 +43,6 @@ fn feed10(t: &[u16; 256], r: u16, v: u16, k: usize) -> u16
     ((r << k) % 1024) ^ t[i as usize]
 }
 
-// The k bits of x from its bit o on.
-fn part(x: u8, o: usize, k: usize) -> u16
-    requires { ⌜ o + k ≤ 8 ⌝ }
-    ensures { λ r. ⌜ r ≡ value (take k (drop o (bitsOf 8 x))) ⌝ }
-{
-    (x as u16 >> (8 - o - k)) % (1 << k)
-}
-
-fn least(a: usize, b: usize) -> usize
-    ensures { λ r. ⌜ r ≡ min a b ⌝ }
-{
-    if a < b { a } else { b }
-}
-
 // The CRC-10 of the count bits of s from bit at on; bits past the end of s are not there.
 pub fn crc10(s: &[u8], at: usize, count: usize) -> u16
     ensures { λ r. ⌜ r ≡ crc10Of (take count (drop at (bits (now (s .entry))))) ⌝ }
@@ -71,8 +57,9 @@ pub fn crc10(s: &[u8], at: usize, count: usize) -> u16
         if s.len() <= q {
             return r;
         }
-        let k = least(8 - o, left);
-        r = feed10(&t, r, part(s[q], o, k), k);
+        let k = bits::smaller(8 - o, left);
+        let part = bits::read_part(s, q, o, k) as u16;
+        r = feed10(&t, r, part, k);
         q += (o + k) / 8;
         o = (o + k) % 8;
         left -= k;

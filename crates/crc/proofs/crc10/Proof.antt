@@ -2,16 +2,17 @@
 use mathlib.Core.Path.{_≡_, sym, ap, ap₂, _∙_}
 use mathlib.Core.List.{List, _++_}
 use Prim.Native.Nat.{ℕ, _+_, _-_, _*_, _≤_, _<_}
+use native.Mathlib.Nat.{lt-of-lt-of-le}
 use native.Mathlib.Omega.{arith}
 use borrow.Author.Needs.{needs}
 use denote.Ref.{now}
-use lib.ListN.{length, getD, take, drop, length-drop}
-use lib.Seq.{take-all, length-take-le}
+use lib.ListN.{length, take, drop, length-drop}
+use lib.Pow.{pow-mono}
+use lib.Seq.{take-all, take-add, drop-drop, length-take-le}
 use Rattle.gf2.specs.Register.{feed}
 use Rattle.bits.specs.Bits.{value, bits, bitsOf}
-use Rattle.bits.proofs.Bits.{length-bits, length-bitsOf, value-take-lt, bitsOf-value}
+use Rattle.bits.proofs.Bits.{length-bits, value-take-lt, bitsOf-value}
 use Rattle.crc.specs.Crc.{g10, crc10Of}
-use Rattle.crc.proofs.Number.{run-more}
 use Rattle.crc.proofs.Crc.{crc10-none, crc10-lt, crc10-turn}
 use Rattle.crc.proofs.crc10.Statement.{statement}
 use Rattle.crc.proofs.crc10.Tie as tie
@@ -52,27 +53,32 @@ returns c =
     let h : length b ≤ n = rw (length-drop, length-bits) (omega (arith, l .inv .place)) in
     l .inv .register ∙ ap crc10Of (take-all n b h ∙ sym (take-all (a .count) b (omega arith)))
 
-sub-least : tie.Need-sub-least Inv-loop μ-loop
-sub-least c = omega arith
+sub-smaller : tie.Need-sub-smaller Inv-loop μ-loop
+sub-smaller c = omega arith
 
-least-requires : tie.Need-least-requires Inv-loop μ-loop
-least-requires c κs = search needs
+smaller-requires : tie.Need-smaller-requires Inv-loop μ-loop
+smaller-requires c κs = search needs
 
-shared-slice-read-part : tie.Need-shared-slice-read-part Inv-loop μ-loop
-shared-slice-read-part c = omega arith
+read-part-requires : tie.Need-read-part-requires Inv-loop μ-loop
+read-part-requires c κs = (omega arith, omega arith)
 
-part-requires : tie.Need-part-requires Inv-loop μ-loop
-part-requires c κs = omega arith
+-- a part has at most eight bits
+cast-part : tie.Need-cast-part Inv-loop μ-loop
+cast-part c =
+    let l = c .before .before .before .before .loop in
+    let s = now (c .before .before .before .before .before .before .before .args .s) in
+    let k = c .before .smaller .result in
+    omega (arith, c .read-part .ensures, lt-of-lt-of-le (value-take-lt k (drop (8 * l .q + l .o) (bits s))) (pow-mono {i = k} {j = 8} (omega arith)))
 
 feed10-requires : tie.Need-feed10-requires Inv-loop μ-loop
 feed10-requires c κs =
-    let l = c .before .before .before .before .before .before .loop in
-    let a = c .before .before .before .before .before .before .before .before .before .args in
-    let k = c .before .before .before .least .result in (
-      c .before .before .before .before .before .before .before .table .ensures,
+    let l = c .before .before .before .before .before .loop in
+    let a = c .before .before .before .before .before .before .before .before .args in
+    let k = c .before .before .smaller .result in (
+      c .before .before .before .before .before .before .table .ensures,
       rw (l .inv .register) (crc10-lt (take (a .count - l .left) (drop (a .at) (bits (now (a .s)))))),
       omega arith,
-      rw (c .part .ensures) (value-take-lt k (drop (l .o) (bitsOf 8 (getD (now (a .s)) (l .q) 0)))),
+      rw (c .before .read-part .ensures) (value-take-lt k (drop (8 * l .q + l .o) (bits (now (a .s))))),
     )
 
 add-q : tie.Need-add-q Inv-loop μ-loop
@@ -92,27 +98,27 @@ loop-less c = omega arith
 
 loop-again : tie.Need-loop-again Inv-loop μ-loop
 loop-again c =
-    let a = c .before .before .before .before .before .before .before .before .before .before .args in
-    let l = c .before .before .before .before .before .before .before .loop in
-    let k = c .before .before .before .before .least .result in
-    let s = now (a .s) in
-    let b = drop (a .at) (bits s) in
+    let a = c .before .before .before .before .before .before .before .before .before .args in
+    let l = c .before .before .before .before .before .before .loop in
+    let k = c .before .before .before .smaller .result in
+    let b = bits (now (a .s)) in
     let n = a .count - l .left in
-    let x = drop (l .o) (bitsOf 8 (getD s (l .q) 0)) in
-    let fit : l .o + k ≤ 8 = omega arith in
-    let lx : length (take k x) ≡ k = length-take-le k x (rw (length-drop, length-bitsOf) (omega arith)) in
-    let p : bitsOf k (c .before .part .result) ≡ take k x = ap₂ bitsOf (sym lx) (c .before .part .ensures) ∙ bitsOf-value (take k x) in
+    let p = 8 * l .q + l .o in
+    let x = take k (drop p b) in
+    let lx : length x ≡ k = length-take-le k (drop p b) (rw (length-drop, length-bits) (omega arith)) in
+    let v : bitsOf k (c .before .before .read-part .result) ≡ x = ap₂ bitsOf (sym lx) (c .before .before .read-part .ensures) ∙ bitsOf-value x in
+    let d : drop n (drop (a .at) b) ≡ drop p b = drop-drop n (a .at) b ∙ ap (λ i. drop i b) (l .inv .place) in
     let e : n + k ≡ a .count - (l .left - k) = omega arith in
-    let m : take n b ++ take k x ≡ take (a .count - (l .left - k)) b =
-    sym (run-more s (a .at) n (l .q) (l .o) k (l .inv .place) fit (omega arith)) ∙ ap (λ i. take i b) e in
+    let m : take n (drop (a .at) b) ++ x ≡ take (a .count - (l .left - k)) (drop (a .at) b) =
+    ap (λ y. take n (drop (a .at) b) ++ take k y) (sym d) ∙ sym (take-add n k (drop (a .at) b)) ∙ ap (λ i. take i (drop (a .at) b)) e in
     record {
       some = omega arith;
       bit = omega arith;
       place = omega arith;
       register =
           c .feed10 .ensures
-          ∙ ap (λ y. value (feed g10 (bitsOf 10 (l .r)) y)) p
-          ∙ crc10-turn (take n b) (take k x) (l .r) (l .inv .register)
+          ∙ ap (λ y. value (feed g10 (bitsOf 10 (l .r)) y)) v
+          ∙ crc10-turn (take n (drop (a .at) b)) x (l .r) (l .inv .register)
           ∙ ap crc10Of m;
     }
 
@@ -132,10 +138,10 @@ crc10-spec =
     table-requires
     loop-holds
     returns
-    sub-least
-    least-requires
-    shared-slice-read-part
-    part-requires
+    sub-smaller
+    smaller-requires
+    read-part-requires
+    cast-part
     feed10-requires
     add-q
     add-q-2
