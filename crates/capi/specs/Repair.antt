@@ -4,19 +4,8 @@ use mathlib.Core.List.{List}
 use Prim.Native.Nat.{ℕ}
 use lib.Dec.{eqb}
 use lib.ListN.{length}
-use Rattle.dsc.specs.Repair.{numberOf, repairOf}
-use Rattle.dsc.specs.declared.Outcome.{Outcome}
-use Rattle.dsc.specs.declared.Outcome.the-variants as outcome
-use Rattle.dsc.specs.declared.Answer.{Answer}
+use Rattle.dsc.specs.Repair.{numberOf, placesOf, repairOf}
 use Rattle.capi.specs.Status.{statusOf}
-
--- the number of repaired places, 0 on a refusal
-abbrev pub placesOf : Answer → ℕ
-placesOf a = places (a .outcome)
-  where
-    places : Outcome → ℕ
-    places (outcome.Repaired n) = n
-    places (outcome.Refused n) = 0
 
 -- a buffer of another length than 26 bytes is 1, else it is the repair's answer
 unfoldable pub repairStatus : (f w : List ℕ) → ℕ

@@ -63,13 +63,21 @@ answerTo r beyond = refusedWith 4
 unfoldable pub repairOf : List ℕ → Answer
 repairOf f = cond (eqb (length f) 26) (answerTo (protected f) (decode (protected f))) (refusedWith 1)
 
--- document 01's number of an answer, 0 where it was repaired, and the number of places repaired
+-- document 01's number of an answer, 0 where it was repaired
 abbrev pub numberOf : Answer → ℕ
 numberOf a = number (a .outcome)
   where
     number : Outcome → ℕ
     number (outcome.Repaired n) = 0
     number (outcome.Refused n) = n
+
+-- the number of repaired places, 0 on a refusal
+abbrev pub placesOf : Answer → ℕ
+placesOf a = places (a .outcome)
+  where
+    places : Outcome → ℕ
+    places (outcome.Repaired n) = n
+    places (outcome.Refused n) = 0
 
 -- ---- demand 3, of the answer a to the bytes f
 
