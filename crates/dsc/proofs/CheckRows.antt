@@ -9,13 +9,13 @@ use native.Mathlib.Nat.{suc-inj, mod-add-mod, add-mod-mod}
 use native.Mathlib.Omega.{arith}
 use lib.Dec.{eqb, ltb, T, ltb→lt, eqb→eq}
 use lib.ListN.{length, getD, length-append, length-replicate}
-use borrow.Author.Tests.{eq-eqb, ne-eqb, eqb-true, eqb-false, ltb-true}
+use borrow.Author.Tests.{eq-eqb, ne-eqb, eqb-true}
 use Rattle.bits.proofs.Computed.{and-left, and-right, T-not, eqb-same, below, below-at, allBelow}
 use Rattle.gf2.specs.Polynomial.{_⊕_, zeros, add, scale, mul, poly, member}
-use Rattle.gf2.proofs.Sum.{xor-cross, and-xor, length-add, add-zeros, add-shifted, add-self}
+use Rattle.gf2.proofs.Sum.{xor-cross, and-xor, length-add, add-zeros, add-shifted}
 use Rattle.gf2.proofs.Division.{length-mul}
 use Rattle.dsc.specs.Code.{powers, generatorLow, CodeWord, count, bit}
-use Rattle.dsc.specs.CheckTable.{differences, row, rowsOf, coefficient, sumOver, syndrome, failures}
+use Rattle.dsc.specs.CheckTable.{differences, row, rowsOf, coefficient, sumOver, syndrome}
 use Rattle.dsc.proofs.Word.{length-low}
 
 -- ---- sums and counts along a list

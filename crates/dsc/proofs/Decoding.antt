@@ -3,13 +3,13 @@ use mathlib.Core.Path.{_≡_, refl, sym, ap, _∙_}
 use mathlib.Core.Bool.{Bool, true, false, not, true≢false, cond}
 use mathlib.Core.Logic.{_⊎_, inl, inr}
 use mathlib.Core.List.{List, [], _∷_, _++_, map, List·Memᴰ, List·Memᴰ·head, List·Memᴰ·tail, List·Memᴰ·cases-cons, List·Memᴰ·not-nil, Memᴰ·append-left, Memᴰ·append-right}
-use Prim.Native.Nat.{ℕ, zero, suc, _+_, _≤_}
+use Prim.Native.Nat.{ℕ, zero, suc, _≤_}
 use native.Mathlib.Nat.{suc-inj}
 use native.Mathlib.Omega.{arith}
 use lib.ListN.{length}
-use Rattle.gf2.specs.Polynomial.{_⊕_, add}
-use Rattle.dsc.specs.Code.{CodeWord, bit, dist, isCodeWord}
-use Rattle.dsc.specs.Repair.{ball, Decoded, corrected, beyond, firstCodeWord, decode}
+use Rattle.gf2.specs.Polynomial.{add}
+use Rattle.dsc.specs.Code.{CodeWord, dist, isCodeWord}
+use Rattle.dsc.specs.Repair.{ball, corrected, beyond, firstCodeWord, decode}
 use Rattle.dsc.proofs.Word.{length-word, word-tested, tested-word}
 use Rattle.dsc.proofs.Distance.{only-one}
 

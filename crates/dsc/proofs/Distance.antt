@@ -10,7 +10,7 @@ use lib.Dec.{eqb}
 use lib.ListN.{length}
 use borrow.Author.Tests.{eq-eqb, eqb-true, eqb-false}
 use Rattle.gf2.specs.Polynomial.{_⊕_, zeros, add}
-use Rattle.gf2.proofs.Sum.{length-add, add-none, add-comm, add-assoc, add-same, add-to-zeros}
+use Rattle.gf2.proofs.Sum.{length-add, add-none, add-assoc, add-same, add-to-zeros}
 use Rattle.dsc.specs.Code.{CodeWord, bit, count, weight, dist}
 use Rattle.dsc.specs.CheckTable.{rowsOf, coefficient, syndrome, failures}
 use Rattle.dsc.proofs.Word.{length-word}
@@ -99,9 +99,6 @@ weight18 e h even w =
     omega (arith, hits e (s .0) h (omega (arith, s .1)) .struck (s .2))
 
 -- ---- distances
-
-pub dist-comm : (u w : List Bool) → length u ≡ length w → dist u w ≡ dist w u
-dist-comm u w h = ap weight (add-comm u w h)
 
 pub dist-triangle : (r u w : List Bool) → length r ≡ length u → length r ≡ length w → dist u w ≤ dist r u + dist r w
 unfolding add

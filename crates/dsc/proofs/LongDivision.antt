@@ -7,7 +7,7 @@ use native.Mathlib.Numerals.{add-one}
 use native.Mathlib.Omega.{arith}
 use lib.ListN.{length, getD, set, take, drop, length-append, length-drop, drop-of-length-le}
 use lib.Seq.{take-all, drop-at, length-take-le}
-use Rattle.gf2.specs.Polynomial.{_⊕_, zeros, add, scale, remainder}
+use Rattle.gf2.specs.Polynomial.{_⊕_, add, scale, remainder}
 use Rattle.gf2.proofs.Sum.{xor-comm, length-add, add-zeros}
 use Rattle.dsc.proofs.Steps.{ne-xor, next}
 

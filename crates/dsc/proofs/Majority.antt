@@ -3,22 +3,22 @@
 use mathlib.Core.Path.{_≡_, refl, sym, ap, ap₂, _∙_, subst}
 use mathlib.Core.Bool.{Bool, true, false, cond}
 use mathlib.Core.List.{List, [], _∷_}
-use Prim.Native.Nat.{ℕ, suc, _+_, _≤_, _<_}
+use Prim.Native.Nat.{ℕ, suc, _≤_, _<_}
 use native.Mathlib.Nat.{suc-inj}
 use native.Mathlib.Omega.{arith}
-use lib.Dec.{eqb, leb}
+use lib.Dec.{leb}
 use lib.ListN.{length}
 use borrow.Author.Tests.{eq-eqb, ne-eqb, le-leb, lt-leb, leb-true, leb-false}
 use Rattle.gf2.specs.Polynomial.{_⊕_, add}
 use Rattle.gf2.proofs.Sum.{xor-false, xor-self, length-add}
 use Rattle.dsc.specs.Code.{CodeWord, dist, isCodeWord}
 use Rattle.dsc.specs.CheckTable.{coefficient, syndrome, failures}
-use Rattle.dsc.specs.Repair.{corrected, beyond, decode}
+use Rattle.dsc.specs.Repair.{beyond, decode}
 use Rattle.dsc.specs.Engine.{flipped}
 use Rattle.dsc.proofs.Word.{length-word, word-tested, tested-word}
 use Rattle.dsc.proofs.CheckRows.{syndrome-add, word-even, rows-same}
 use Rattle.dsc.proofs.Distance.{Hits, hits}
-use Rattle.dsc.proofs.Decoding.{decode-found, decode-none}
+use Rattle.dsc.proofs.Decoding.{decode-none}
 
 pub length-flipped : (r w : List Bool) → length (flipped r w) ≡ length w
 length-flipped r [] = refl

@@ -1,7 +1,7 @@
 -- Words in a frame's bits and bytes, by index. Assumes nothing.
-use mathlib.Core.Path.{_≡_, refl, sym, ap, _∙_}
+use mathlib.Core.Path.{_≡_, refl, ap, _∙_}
 use mathlib.Core.Bool.{Bool, true, false}
-use mathlib.Core.List.{List, [], _∷_, _++_}
+use mathlib.Core.List.{List, _++_}
 use Prim.Native.Nat.{ℕ, zero, suc, _+_, _-_, _*_, _≤_, _<_}
 use native.Mathlib.Nat.{lt-of-lt-of-le}
 use native.Mathlib.Numerals.{add-one}
@@ -14,7 +14,7 @@ use Rattle.bits.specs.Bits.{digit, value, bits, bytes}
 use Rattle.bits.proofs.Bits.{value-snoc, value-take-lt}
 use Rattle.gf2.specs.Polynomial.{zeros}
 use Rattle.dsc.specs.Code.{bit}
-use Rattle.dsc.specs.Repair.{protected, wordBytes}
+use Rattle.dsc.specs.Repair.{protected}
 use Rattle.dsc.specs.Engine.{at, padded}
 
 pub digit-set : (b : Bool) → eqb (digit b) 1 ≡ b

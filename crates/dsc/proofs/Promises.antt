@@ -1,5 +1,5 @@
 -- The promises hold. Assumes nothing.
-use mathlib.Core.Path.{_≡_, refl, sym, ap, ap₂, _∙_, subst}
+use mathlib.Core.Path.{_≡_, refl, sym, ap, _∙_}
 use mathlib.Core.Bool.{Bool, true, false}
 use mathlib.Core.Logic.{_≢_}
 use mathlib.Core.List.{List}
@@ -11,7 +11,7 @@ use borrow.Author.Tests.{eqb-true, eqb-false}
 use Rattle.gf2.specs.Polynomial.{add}
 use Rattle.gf2.proofs.Sum.{length-add}
 use Rattle.dsc.specs.Code.{CodeWord, weight, dist}
-use Rattle.dsc.specs.Repair.{protected, wordBytes, decode, repairedTo, refusedWith, answerTo, numberOf, repairOf}
+use Rattle.dsc.specs.Repair.{protected, wordBytes, decode, repairedTo, answerTo, numberOf, repairOf}
 use Rattle.dsc.specs.Promises.{NoneWithinEight, Demand3, CodeLaws}
 use Rattle.dsc.proofs.Word.{length-word, parity-word, parity-only}
 use Rattle.dsc.proofs.CheckRows.{word-even}

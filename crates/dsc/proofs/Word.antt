@@ -4,7 +4,7 @@ use mathlib.Core.Bool.{Bool, true, false, false≢true}
 use mathlib.Core.List.{List, [], _∷_, _++_}
 use Prim.Native.Nat.{ℕ, zero, suc, _+_}
 use lib.ListN.{length, length-append}
-use Rattle.gf2.specs.Polynomial.{zeros, poly, member, mul, remainder, quotient, checkBits}
+use Rattle.gf2.specs.Polynomial.{zeros, poly, member, remainder, quotient, checkBits}
 use Rattle.gf2.proofs.Division.{length-remainder, length-mul, length-quotient, length-check, remainder-mul, mul-quotient, check-word, check-only}
 use Rattle.dsc.specs.Code.{powers, generatorLow, CodeWord, allZero, isCodeWord, parityOf}
 

@@ -2,7 +2,7 @@
 use mathlib.Core.Path.{_≡_, refl, sym, ap, _∙_}
 use mathlib.Core.Bool.{Bool, true, false, false≢true}
 use mathlib.Core.List.{List, [], _∷_}
-use Prim.Native.Nat.{ℕ, suc, _+_, _≤_}
+use Prim.Native.Nat.{ℕ, _+_, _≤_}
 use native.Mathlib.Nat.{suc-inj}
 use native.Mathlib.Omega.{arith}
 use lib.ListN.{length}
@@ -12,7 +12,7 @@ use Rattle.dsc.specs.Code.{powers, generatorLow, CodeWord, weight, dist,
 use Rattle.dsc.specs.Repair.{protected, repairedTo, refusedWith, repairOf}
 use Rattle.dsc.specs.Worked.{generatorWord, among, SomePlaces, Worked}
 use Rattle.dsc.proofs.Word.{length-word, tested-word}
-use Rattle.dsc.proofs.Distance.{close-equal, dist-comm, dist-triangle, dist-same}
+use Rattle.dsc.proofs.Distance.{close-equal, dist-triangle, dist-same}
 use Rattle.dsc.proofs.Answers.{length-protected, repair-found, repair-none}
 
 zero-word : CodeWord (zeros 187)

@@ -9,7 +9,7 @@ use lib.ListN.{length, take}
 use Rattle.gf2.specs.Polynomial.{member, add}
 use Rattle.dsc.specs.Code.{CodeWord, count, weight, dist, parityOf}
 use Rattle.dsc.specs.CheckTable.{row, upto, syndrome}
-use Rattle.dsc.specs.Repair.{protected, wordBytes, repairedTo, refusedWith, numberOf, repairOf, Repairs}
+use Rattle.dsc.specs.Repair.{protected, wordBytes, repairedTo, numberOf, repairOf, Repairs}
 use Rattle.dsc.specs.Encoding.{messageOf, encodeOf}
 use Rattle.dsc.specs.declared.Answer.{Answer}
 

@@ -1,7 +1,7 @@
 // The encoder: the parity of a message, by long division.
 ghost use mathlib.Core.Path.{_≡_};
 ghost use mathlib.Core.List.{_++_};
-ghost use Prim.Native.Nat.{ℕ, _+_, _<_, _≤_};
+ghost use Prim.Native.Nat.{_+_, _<_, _≤_};
 ghost use lib.ListN.{length, take, drop};
 ghost use Rattle.gf2.specs.Polynomial.{zeros, add, remainder};
 ghost use Rattle.dsc.specs.Code.{generatorLow, parityOf};

@@ -1,9 +1,8 @@
 // The repair of the protected part, and its encoder: the (187,105) difference-set cyclic code.
 ghost use mathlib.Core.Path.{_≡_};
-ghost use Prim.Native.Nat.{ℕ, _+_};
 ghost use lib.ListN.{length};
 ghost use Rattle.dsc.specs.Encoding.{encodeOf};
-ghost use Rattle.dsc.specs.Repair.{refusedWith, repairedTo, answerTo, protected, decode, repairOf, Repairs};
+ghost use Rattle.dsc.specs.Repair.{refusedWith, repairedTo, answerTo, decode, repairOf, Repairs};
 
 mod check_table;
 mod encoder;

@@ -1,6 +1,6 @@
 // The sums of a word on the rows of the check table, and the majority of the rows through each place.
 ghost use mathlib.Core.Path.{_≡_};
-ghost use Prim.Native.Nat.{ℕ, _+_, _-_, _%_, _<_, _≤_};
+ghost use Prim.Native.Nat.{ℕ, _+_, _-_, _%_, _<_};
 ghost use lib.ListN.{length, getD};
 ghost use Rattle.dsc.specs.Code.{count, isCodeWord};
 ghost use Rattle.dsc.specs.CheckTable.{CheckTable, differences, coefficient, rowsOf, syndrome};

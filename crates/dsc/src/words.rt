@@ -1,6 +1,6 @@
 // Words of 187 bits: out of a frame's bytes, into bytes, and how many places two of them differ in.
 ghost use mathlib.Core.Path.{_≡_};
-ghost use Prim.Native.Nat.{ℕ, _+_, _*_, _<_, _≤_};
+ghost use Prim.Native.Nat.{_+_, _*_, _<_, _≤_};
 ghost use lib.ListN.{length, take, drop};
 ghost use Rattle.bits.specs.Bits.{value, bits, digit};
 ghost use Rattle.dsc.specs.Code.{bit, dist};

@@ -108,13 +108,6 @@ add-self [] w = refl
 add-self (a ∷ u) [] = refl
 add-self (a ∷ u) (b ∷ w) = ap₂ _∷_ (xor-self a b) (add-self u w)
 
-pub add-comm : (u w : List Bool) → length u ≡ length w → add u w ≡ add w u
-unfolding add
-add-comm [] [] h = refl
-add-comm [] (b ∷ w) h = absurd (omega arith)
-add-comm (a ∷ u) [] h = absurd (omega arith)
-add-comm (a ∷ u) (b ∷ w) h = ap₂ _∷_ (xor-comm a b) (add-comm u w (suc-inj h))
-
 pub add-assoc : (u v w : List Bool) → length u ≤ length v → add (add u v) w ≡ add u (add v w)
 unfolding add
 add-assoc [] v w h = refl

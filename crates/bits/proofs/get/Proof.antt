@@ -1,9 +1,8 @@
 use mathlib.Core.Path.{_∙_, ap, sym}
-use mathlib.Core.Bool.{Bool}
+use mathlib.Core.Bool.{Bool, cond}
 use denote.Ref.{now}
 use lib.ListN.{length}
 use borrow.Author.Needs.{needs}
-use mathlib.Core.Bool.{cond}
 use Rattle.bits.specs.Field.{field}
 use Rattle.bits.proofs.Field.{within-true}
 use Rattle.bits.proofs.get.Statement.{statement}

@@ -1,11 +1,10 @@
 use mathlib.Core.Path.{_∙_, ap, ap₂, sym}
-use mathlib.Core.Bool.{Bool}
+use mathlib.Core.Bool.{Bool, cond}
 use mathlib.Core.List.{List}
 use Prim.Native.Nat.{ℕ}
 use denote.Ref.{now}
 use lib.ListN.{length}
 use borrow.Author.Needs.{needs}
-use mathlib.Core.Bool.{cond}
 use Rattle.bits.specs.Field.{putBits}
 use Rattle.bits.specs.Bits.{bytes}
 use Rattle.bits.proofs.Field.{within-true}

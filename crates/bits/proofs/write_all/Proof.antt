@@ -5,8 +5,7 @@ use Prim.Native.Nat.{ℕ, _+_, _-_, _≤_, _<_}
 use native.Mathlib.Omega.{arith}
 use denote.Ref.{now}
 use lib.ListN.{length, getD, take, drop}
-use lib.Seq.{take-length}
-use lib.Seq.{paste}
+use lib.Seq.{take-length, paste}
 use Rattle.bits.specs.Layout.{pack, sum}
 use Rattle.bits.specs.Bits.{bits, bitsOf}
 use Rattle.bits.proofs.Layouts.{pack-next, sum-take, sum-next}

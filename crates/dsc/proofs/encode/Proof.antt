@@ -1,6 +1,5 @@
 -- `dsc::encode` meets its contract. Assumes nothing.
-use mathlib.Core.Path.{_≡_, sym, ap, ap₂, _∙_}
-use native.Mathlib.Omega.{arith}
+use mathlib.Core.Path.{ap, _∙_}
 use lib.ListN.{take}
 use Rattle.bits.specs.Field.{putOf}
 use Rattle.dsc.specs.Code.{parityOf}

@@ -1,6 +1,5 @@
 -- `dsc::repair` meets its contract: demand 3. Assumes nothing.
-use mathlib.Core.Path.{_≡_, refl, sym, ap, _∙_}
-use native.Mathlib.Omega.{arith}
+use mathlib.Core.Path.{refl, sym, ap, _∙_}
 use Rattle.dsc.specs.Repair.{answerTo, decode}
 use Rattle.dsc.proofs.Answers.{repair-short, repair-decoded, met}
 use borrow.Author.Needs.{needs}

@@ -1,5 +1,5 @@
 -- `dsc::rows::coefficient` meets its contract. Assumes nothing.
-use mathlib.Core.Path.{_≡_, sym}
+use mathlib.Core.Path.{sym}
 use Prim.Native.Nat.{_-_}
 use native.Mathlib.Omega.{arith}
 use Rattle.dsc.proofs.CheckRows.{coefficient-at, coefficient-out}

@@ -1,11 +1,10 @@
 -- `dsc::words::frame_bit` meets its contract. Assumes nothing.
-use mathlib.Core.Path.{_≡_, sym, ap, _∙_}
-use Prim.Native.Nat.{ℕ, _+_, _*_, _/_, _%_}
+use mathlib.Core.Path.{_≡_, ap, _∙_}
+use Prim.Native.Nat.{_+_, _*_, _/_, _%_}
 use native.Mathlib.Omega.{arith}
 use lib.Dec.{eqb}
-use lib.ListN.{getD}
 use Rattle.dsc.specs.Engine.{at}
-use Rattle.bits.specs.Bits.{bits, digit}
+use Rattle.bits.specs.Bits.{bits}
 use Rattle.dsc.proofs.Octets.{digit-set}
 use borrow.Author.Needs.{needs}
 use Rattle.dsc.proofs.words.frame_bit.Statement.{statement}

@@ -1,11 +1,11 @@
 -- `dsc::words::octet` meets its contract: a bit of the byte at each turn. Assumes nothing.
 use borrow.Author.Needs.{needs}
 use mathlib.Core.Path.{_≡_, refl, sym, ap, ap₂, _∙_}
-use Prim.Native.Nat.{ℕ, _≤_, _<_, _-_, _+_, _*_}
+use Prim.Native.Nat.{_≤_, _<_, _-_, _+_, _*_}
 use native.Mathlib.Omega.{arith}
 use lib.ListN.{take, drop}
 use Rattle.bits.specs.Bits.{value}
-use Rattle.dsc.specs.Engine.{at, padded}
+use Rattle.dsc.specs.Engine.{padded}
 use Rattle.dsc.proofs.Octets.{value-next, value-small, length-padded}
 use Rattle.dsc.proofs.words.octet.Statement.{statement}
 use Rattle.dsc.proofs.words.octet.Tie as tie
