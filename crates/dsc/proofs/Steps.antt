@@ -6,10 +6,10 @@ use mathlib.Core.List.{List, [], _∷_, map}
 use Prim.Native.Nat.{ℕ, zero, suc, _+_, _-_, _%_, _≤_, _<_}
 use native.Mathlib.Numerals.{add-one}
 use native.Mathlib.Omega.{arith}
-use lib.ListN.{length, getD, set, drop, length-map, drop-of-length-le}
+use lib.ListN.{length, getD, set, drop, length-set, length-map, drop-of-length-le}
 use lib.Dec.{eqb, leb}
 use borrow.Author.Tests.{eqb-true, eqb-false}
-use lib.Seq.{drop-cons, getD-set-same, getD-set-other}
+use lib.Seq.{drop-cons, ext-getD, getD-set-same, getD-set-other}
 use Rattle.gf2.specs.Polynomial.{_⊕_, add}
 use Rattle.gf2.proofs.Sum.{xor-false, xor-assoc}
 use Rattle.dsc.specs.Code.{count, bit, dist}
@@ -57,18 +57,32 @@ module _ (u w : List Bool) (i : ℕ) where
   unfolding add
   dist-done n total h k inv = omega (arith, ap₂ dist (drop-of-length-le u h) (drop-of-length-le w k))
 
--- ---- a list that is filled from the front: its first n elements are those of g
+-- ---- a list that is filled from the front
 
-module _ {A : Type 0} (d : A) (g : ℕ → A) where
-  abbrev pub Filled : ℕ → List A → Type 0
-  Filled n xs = (k : ℕ) → k < n → getD xs k d ≡ g k
+-- its first n elements, of size, are those of g; an element that is not there reads as d
+pub record Filled {A : Type 0} (d : A) (size : ℕ) (g : ℕ → A) (n : ℕ) (xs : List A) : Type 0 where
+  pub some : n ≤ size
+  pub long : length xs ≡ size
+  pub each : (k : ℕ) → k < n → getD xs k d ≡ g k
 
-  pub filled-next : (n : ℕ) (xs : List A) (v : A) → n < length xs → v ≡ g n → Filled n xs → Filled (n + 1) (set xs n v)
-  filled-next n xs v h e all k hk = go (eqb k n) refl
-    where
-      go : (t : Bool) → eqb k n ≡ t → getD (set xs n v) k d ≡ g k
-      go true q = let same = eqb-true k n q in ap (λ i. getD (set xs n v) i d) same ∙ getD-set-same xs n v d h ∙ e ∙ sym (ap g same)
-      go false q = let ne : k ≢ n = eqb-false k n q in getD-set-other xs n k v d ne ∙ all k (omega arith)
+module _ {A : Type 0} {d : A} {size : ℕ} {g : ℕ → A} {xs : List A} where
+  pub filled-none : length xs ≡ size → Filled d size g 0 xs
+  filled-none l = record { some = omega arith; long = l; each = λ k h. absurd (omega arith) }
+
+  module _ {n : ℕ} (f : Filled d size g n xs) where
+    pub filled-next : {v : A} → n < size → v ≡ g n → Filled d size g (n + 1) (set xs n v)
+    filled-next {v} h e = record { some = omega arith; long = length-set xs n v ∙ f .long; each = λ k hk. go k hk (eqb k n) refl }
+      where
+        go : (k : ℕ) → k < n + 1 → (t : Bool) → eqb k n ≡ t → getD (set xs n v) k d ≡ g k
+        go k hk true q = let same = eqb-true k n q in ap (λ i. getD (set xs n v) i d) same ∙ getD-set-same xs n v d (omega arith) ∙ e ∙ sym (ap g same)
+        go k hk false q = let ne : k ≢ n = eqb-false k n q in getD-set-other xs n k v d ne ∙ f .each k (omega arith)
+
+    pub filled-all : size ≤ n → (k : ℕ) → k < size → getD xs k d ≡ g k
+    filled-all h k hk = f .each k (omega arith)
+
+-- filled with the elements of l
+pub filled-list : {A : Type 0} {d : A} {size n : ℕ} {xs : List A} (l : List A) → Filled d size (λ k. getD l k d) n xs → size ≤ n → length l ≡ size → xs ≡ l
+filled-list {d} {xs} l f h e = ext-getD d xs l (omega (arith, f .long)) (λ k hk. filled-all f h k (omega (arith, f .long)))
 
 -- ---- rows by index
 

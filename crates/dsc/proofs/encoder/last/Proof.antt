@@ -1,24 +1,24 @@
 -- `dsc::encoder::last` meets its contract. Assumes nothing.
 use borrow.Author.Needs.{needs}
-use mathlib.Core.Path.{_≡_, sym}
+use mathlib.Core.Path.{sym}
 use mathlib.Core.Bool.{false}
-use Prim.Native.Nat.{_≤_, _-_}
+use Prim.Native.Nat.{_-_}
 use native.Mathlib.Omega.{arith}
-use lib.ListN.{length, drop, length-drop}
-use lib.Seq.{ext-getD, getD-drop}
+use lib.ListN.{drop, length-drop}
+use lib.Seq.{getD-drop}
 use Rattle.dsc.specs.Engine.{at}
-use Rattle.dsc.proofs.Steps.{Filled, filled-next}
+use Rattle.dsc.proofs.Steps.{Filled, filled-none, filled-next, filled-list}
 use Rattle.dsc.proofs.encoder.last.Statement.{statement}
 use Rattle.dsc.proofs.encoder.last.Tie as tie
 
 abbrev Inv-loop : tie.InvT-loop
-Inv-loop w p₀ n₀ p n = (n ≤ 82) × (length p ≡ 82) × Filled false (at (drop 105 w)) n p
+Inv-loop w p₀ n₀ p n = Filled false 82 (at (drop 105 w)) n p
 
 abbrev μ-loop : tie.MeasureT-loop
 μ-loop w p₀ n₀ p n = 82 - n
 
 loop-holds : tie.Need-loop-holds Inv-loop μ-loop
-loop-holds c = (omega arith, omega arith, λ k h. absurd (omega arith))
+loop-holds c = filled-none (omega arith)
 
 add-p : tie.Need-add-p Inv-loop μ-loop
 add-p c = search needs
@@ -38,17 +38,13 @@ loop-less c = search needs
 loop-again : tie.Need-loop-again Inv-loop μ-loop
 loop-again c =
     let a = c .before .before in
-    let w = a .before .args .w .now in (
-      omega arith,
-      search needs,
-      filled-next false (at (drop 105 w)) (a .loop .n) (a .loop .p) _ (omega arith) (sym (getD-drop 105 w (a .loop .n) false)) (a .loop .inv .2),
-    )
+    filled-next (a .loop .inv) (omega arith) (sym (getD-drop 105 (a .before .args .w .now) (a .loop .n) false))
 
 returns : tie.Need-returns Inv-loop μ-loop
 returns c =
     let a = c .before in
     let w = a .before .args .w .now in
-    ext-getD false (a .loop .p) (drop 105 w) (omega (arith, length-drop 105 w)) (λ k h. a .loop .inv .2 k (omega arith))
+    filled-list (drop 105 w) (a .loop .inv) (omega arith) (omega (arith, length-drop 105 w))
 
 pub last-spec : {M : Type 1} → statement M
 last-spec =

@@ -1,20 +1,19 @@
 -- `dsc::encoder::shifted` meets its contract. Assumes nothing.
 use borrow.Author.Needs.{needs}
-use mathlib.Core.Path.{_≡_}
 use mathlib.Core.Bool.{false}
 use mathlib.Core.List.{_++_}
-use Prim.Native.Nat.{_≤_, _-_}
+use Prim.Native.Nat.{_-_}
 use native.Mathlib.Omega.{arith}
-use lib.ListN.{length, take, length-append}
-use lib.Seq.{ext-getD, length-take-le}
+use lib.ListN.{take, length-append}
+use lib.Seq.{length-take-le}
 use Rattle.gf2.specs.Polynomial.{zeros}
 use Rattle.dsc.specs.Engine.{at}
-use Rattle.dsc.proofs.Steps.{Filled, filled-next}
+use Rattle.dsc.proofs.Steps.{Filled, filled-none, filled-next, filled-list}
 use Rattle.dsc.proofs.encoder.shifted.Statement.{statement}
 use Rattle.dsc.proofs.encoder.shifted.Tie as tie
 
 abbrev Inv-loop : tie.InvT-loop
-Inv-loop w d₀ n₀ d n = (n ≤ 187) × (length d ≡ 187) × Filled false (at (take 105 w ++ zeros 82)) n d
+Inv-loop w d₀ n₀ d n = Filled false 187 (at (take 105 w ++ zeros 82)) n d
 
 abbrev μ-loop : tie.MeasureT-loop
 μ-loop w d₀ n₀ d n = 187 - n
@@ -23,7 +22,7 @@ clear-requires : tie.Need-clear-requires Inv-loop μ-loop
 clear-requires c κs = search needs
 
 loop-holds : tie.Need-loop-holds Inv-loop μ-loop
-loop-holds c = (omega arith, omega arith, λ k h. absurd (omega arith))
+loop-holds c = filled-none (omega arith)
 
 shifted-bit-requires : tie.Need-shifted-bit-requires Inv-loop μ-loop
 shifted-bit-requires c κs = search needs
@@ -38,20 +37,13 @@ loop-less : tie.Need-loop-less Inv-loop μ-loop
 loop-less c = search needs
 
 loop-again : tie.Need-loop-again Inv-loop μ-loop
-loop-again c =
-    let a = c .before .before in
-    let m = take 105 (a .before .before .before .args .w .now) in (
-      omega arith,
-      search needs,
-      filled-next false (at (m ++ zeros 82)) (a .loop .n) (a .loop .d) (c .shifted-bit .result) (omega arith) (c .shifted-bit .ensures) (a .loop .inv .2),
-    )
+loop-again c = filled-next (c .before .before .loop .inv) (omega arith) (c .shifted-bit .ensures)
 
 returns : tie.Need-returns Inv-loop μ-loop
 returns c =
     let a = c .before in
     let w = a .before .before .before .args .w .now in
-    ext-getD false (a .loop .d) (take 105 w ++ zeros 82) (omega (arith, length-append (take 105 w) (zeros 82), length-take-le 105 w (omega arith)))
-    (λ k h. a .loop .inv .2 k (omega arith))
+    filled-list (take 105 w ++ zeros 82) (a .loop .inv) (omega arith) (omega (arith, length-append (take 105 w) (zeros 82), length-take-le 105 w (omega arith)))
 
 pub shifted-spec : {M : Type 1} → statement M
 shifted-spec =

@@ -1,23 +1,21 @@
 -- `dsc::rows::flip_majority` meets its contract. Assumes nothing.
 use borrow.Author.Needs.{needs}
-use mathlib.Core.Path.{_≡_, _∙_, sym, ap}
+use mathlib.Core.Path.{_∙_, sym, ap}
 use mathlib.Core.Bool.{false}
-use Prim.Native.Nat.{_≤_, _-_}
+use Prim.Native.Nat.{_-_}
 use native.Mathlib.Omega.{arith}
 use lib.Dec.{leb}
-use lib.ListN.{length}
-use lib.Seq.{ext-getD}
 use Rattle.gf2.specs.Polynomial.{_⊕_}
 use Rattle.dsc.specs.CheckTable.{syndrome}
 use Rattle.dsc.specs.Engine.{at, flipped}
 use Rattle.dsc.proofs.CheckRows.{rows-same}
 use Rattle.dsc.proofs.Majority.{length-flipped}
-use Rattle.dsc.proofs.Steps.{Filled, filled-next, ne-xor, flipped-at}
+use Rattle.dsc.proofs.Steps.{Filled, filled-none, filled-next, filled-list, ne-xor, flipped-at}
 use Rattle.dsc.proofs.rows.flip_majority.Statement.{statement}
 use Rattle.dsc.proofs.rows.flip_majority.Tie as tie
 
 abbrev Inv-loop : tie.InvT-loop
-Inv-loop t r f w₀ n₀ w n = (n ≤ 187) × (length w ≡ 187) × Filled false (at (flipped r r)) n w
+Inv-loop t r f w₀ n₀ w n = Filled false 187 (at (flipped r r)) n w
 
 abbrev μ-loop : tie.MeasureT-loop
 μ-loop t r f w₀ n₀ w n = 187 - n
@@ -26,7 +24,7 @@ clear-requires : tie.Need-clear-requires Inv-loop μ-loop
 clear-requires c κs = search needs
 
 loop-holds : tie.Need-loop-holds Inv-loop μ-loop
-loop-holds c = (omega arith, omega arith, λ k h. absurd (omega arith))
+loop-holds c = filled-none (omega arith)
 
 shared-slice-read-w : tie.Need-shared-slice-read-w Inv-loop μ-loop
 shared-slice-read-w c = search needs
@@ -52,21 +50,17 @@ loop-again c =
     let s = a .before .before .before .before .before in
     let r = s .args .r .now in
     let f = s .args .f .now in
-    let n = a .loop .n in (
-      omega arith,
-      search needs,
-      filled-next false (at (flipped r r)) n (a .loop .w) _ (omega arith)
-          (ne-xor (at r n) (leb 9 (c .failure-count .result))
-          ∙ ap (λ x. at r n ⊕ leb 9 x) (c .failure-count .ensures ∙ rows-same (at f) (syndrome r) (186 - n) (s .pre .3))
-          ∙ sym (flipped-at r r n (186 - n) (omega arith)))
-          (a .loop .inv .2),
-    )
+    let n = a .loop .n in
+    filled-next (a .loop .inv) (omega arith)
+    (ne-xor (at r n) (leb 9 (c .failure-count .result))
+    ∙ ap (λ x. at r n ⊕ leb 9 x) (c .failure-count .ensures ∙ rows-same (at f) (syndrome r) (186 - n) (s .pre .3))
+    ∙ sym (flipped-at r r n (186 - n) (omega arith)))
 
 returns : tie.Need-returns Inv-loop μ-loop
 returns c =
     let a = c .before in
     let r = a .before .before .before .before .before .args .r .now in
-    ext-getD false (a .loop .w) (flipped r r) (omega (arith, length-flipped r r)) (λ k h. a .loop .inv .2 k (omega arith))
+    filled-list (flipped r r) (a .loop .inv) (omega arith) (omega (arith, length-flipped r r))
 
 pub flip-majority-spec : {M : Type 1} → statement M
 flip-majority-spec =

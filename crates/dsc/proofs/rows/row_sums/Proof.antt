@@ -1,17 +1,15 @@
 -- `dsc::rows::row_sums` meets its contract. Assumes nothing.
 use borrow.Author.Needs.{needs}
-use mathlib.Core.Path.{_≡_}
 use mathlib.Core.Bool.{false}
-use Prim.Native.Nat.{_≤_, _-_}
+use Prim.Native.Nat.{_-_}
 use native.Mathlib.Omega.{arith}
-use lib.ListN.{length}
 use Rattle.dsc.specs.Engine.{rowSum}
-use Rattle.dsc.proofs.Steps.{Filled, filled-next}
+use Rattle.dsc.proofs.Steps.{Filled, filled-none, filled-next, filled-all}
 use Rattle.dsc.proofs.rows.row_sums.Statement.{statement}
 use Rattle.dsc.proofs.rows.row_sums.Tie as tie
 
 abbrev Inv-loop : tie.InvT-loop
-Inv-loop t c f₀ s₀ f s = (s ≤ 273) × (length f ≡ 273) × Filled false (rowSum c) s f
+Inv-loop t c f₀ s₀ f s = Filled false 273 (rowSum c) s f
 
 abbrev μ-loop : tie.MeasureT-loop
 μ-loop t c f₀ s₀ f s = 273 - s
@@ -20,7 +18,7 @@ clear-requires : tie.Need-clear-requires Inv-loop μ-loop
 clear-requires c κs = search needs
 
 loop-holds : tie.Need-loop-holds Inv-loop μ-loop
-loop-holds c = (omega arith, omega arith, λ k h. absurd (omega arith))
+loop-holds c = filled-none (omega arith)
 
 row-sum-requires : tie.Need-row-sum-requires Inv-loop μ-loop
 row-sum-requires c κs = search needs
@@ -35,16 +33,10 @@ loop-less : tie.Need-loop-less Inv-loop μ-loop
 loop-less c = search needs
 
 loop-again : tie.Need-loop-again Inv-loop μ-loop
-loop-again c =
-    let a = c .before .before in
-    let w = a .before .before .before .before .args .c .now in (
-      omega arith,
-      search needs,
-      filled-next false (rowSum w) (a .loop .s) (a .loop .f) (c .row-sum .result) (omega arith) (c .row-sum .ensures) (a .loop .inv .2),
-    )
+loop-again c = filled-next (c .before .before .loop .inv) (omega arith) (c .row-sum .ensures)
 
 returns : tie.Need-returns Inv-loop μ-loop
-returns c = record { size = c .before .loop .inv .1; each = λ s h. c .before .loop .inv .2 s (omega arith) }
+returns c = let f = c .before .loop .inv in record { size = f .long; each = filled-all f (omega arith) }
 
 pub row-sums-spec : {M : Type 1} → statement M
 row-sums-spec =

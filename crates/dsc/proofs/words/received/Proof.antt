@@ -1,21 +1,19 @@
 -- `dsc::words::received` meets its contract. Assumes nothing.
 use borrow.Author.Needs.{needs}
-use mathlib.Core.Path.{_≡_, sym, _∙_}
+use mathlib.Core.Path.{sym, _∙_}
 use mathlib.Core.Bool.{false}
-use Prim.Native.Nat.{_≤_, _-_}
+use Prim.Native.Nat.{_-_}
 use native.Mathlib.Omega.{arith}
-use lib.ListN.{length}
-use lib.Seq.{ext-getD}
 use Rattle.dsc.specs.Repair.{protected}
 use Rattle.dsc.specs.Engine.{at}
 use Rattle.dsc.proofs.Answers.{length-protected}
 use Rattle.dsc.proofs.Octets.{protected-at}
-use Rattle.dsc.proofs.Steps.{Filled, filled-next}
+use Rattle.dsc.proofs.Steps.{Filled, filled-none, filled-next, filled-list}
 use Rattle.dsc.proofs.words.received.Statement.{statement}
 use Rattle.dsc.proofs.words.received.Tie as tie
 
 abbrev Inv-loop : tie.InvT-loop
-Inv-loop f w₀ n₀ w n = (n ≤ 187) × (length w ≡ 187) × Filled false (at (protected f)) n w
+Inv-loop f w₀ n₀ w n = Filled false 187 (at (protected f)) n w
 
 abbrev μ-loop : tie.MeasureT-loop
 μ-loop f w₀ n₀ w n = 187 - n
@@ -24,7 +22,7 @@ clear-requires : tie.Need-clear-requires Inv-loop μ-loop
 clear-requires c κs = search needs
 
 loop-holds : tie.Need-loop-holds Inv-loop μ-loop
-loop-holds c = (omega arith, omega arith, λ k h. absurd (omega arith))
+loop-holds c = filled-none (omega arith)
 
 add-frame-bit : tie.Need-add-frame-bit Inv-loop μ-loop
 add-frame-bit c = search needs
@@ -44,18 +42,15 @@ loop-less c = search needs
 loop-again : tie.Need-loop-again Inv-loop μ-loop
 loop-again c =
     let a = c .before .before in
-    let f = a .before .before .before .args .f .now in (
-      omega arith,
-      search needs,
-      filled-next false (at (protected f)) (a .loop .n) (a .loop .w) (c .frame-bit .result) (omega arith) (c .frame-bit .ensures ∙ sym (protected-at f (a .loop .n) (omega arith))) (a .loop .inv .2),
-    )
+    let f = a .before .before .before .args .f .now in
+    filled-next (a .loop .inv) (omega arith) (c .frame-bit .ensures ∙ sym (protected-at f (a .loop .n) (omega arith)))
 
 returns : tie.Need-returns Inv-loop μ-loop
 returns c =
     let a = c .before in
     let s = a .before .before .before in
     let f = s .args .f .now in
-    ext-getD false (a .loop .w) (protected f) (omega (arith, length-protected f (s .pre))) (λ k h. a .loop .inv .2 k (omega arith))
+    filled-list (protected f) (a .loop .inv) (omega arith) (length-protected f (s .pre))
 
 pub received-spec : {M : Type 1} → statement M
 received-spec =

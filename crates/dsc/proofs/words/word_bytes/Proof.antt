@@ -1,26 +1,25 @@
 -- `dsc::words::word_bytes` meets its contract. Assumes nothing.
 use borrow.Author.Needs.{needs}
-use mathlib.Core.Path.{_≡_, sym, _∙_}
-use Prim.Native.Nat.{_≤_, _-_}
+use mathlib.Core.Path.{sym, _∙_}
+use Prim.Native.Nat.{_-_}
 use native.Mathlib.Omega.{arith}
-use lib.ListN.{length, getD}
-use lib.Seq.{ext-getD}
+use lib.ListN.{getD}
 use Rattle.dsc.specs.Repair.{wordBytes}
 use Rattle.dsc.specs.Engine.{padded}
 use Rattle.dsc.proofs.Answers.{length-wordBytes}
 use Rattle.dsc.proofs.Octets.{bytes-at}
-use Rattle.dsc.proofs.Steps.{Filled, filled-next}
+use Rattle.dsc.proofs.Steps.{Filled, filled-none, filled-next, filled-list}
 use Rattle.dsc.proofs.words.word_bytes.Statement.{statement}
 use Rattle.dsc.proofs.words.word_bytes.Tie as tie
 
 abbrev Inv-loop : tie.InvT-loop
-Inv-loop w b₀ j₀ b j = (j ≤ 26) × (length b ≡ 26) × Filled 0 (λ k. getD (wordBytes w) k 0) j b
+Inv-loop w b₀ j₀ b j = Filled 0 26 (λ k. getD (wordBytes w) k 0) j b
 
 abbrev μ-loop : tie.MeasureT-loop
 μ-loop w b₀ j₀ b j = 26 - j
 
 loop-holds : tie.Need-loop-holds Inv-loop μ-loop
-loop-holds c = (omega arith, omega arith, λ k h. absurd (omega arith))
+loop-holds c = filled-none (omega arith)
 
 octet-requires : tie.Need-octet-requires Inv-loop μ-loop
 octet-requires c κs = search needs
@@ -38,17 +37,14 @@ loop-again : tie.Need-loop-again Inv-loop μ-loop
 unfolding wordBytes
 loop-again c =
     let a = c .before .before in
-    let w = a .before .before .args .w .now in (
-      omega arith,
-      search needs,
-      filled-next 0 (λ k. getD (wordBytes w) k 0) (a .loop .j) (a .loop .b) (c .octet .result) (omega arith) (c .octet .ensures ∙ sym (bytes-at 26 (padded w) (a .loop .j) (omega arith))) (a .loop .inv .2),
-    )
+    let w = a .before .before .args .w .now in
+    filled-next (a .loop .inv) (omega arith) (c .octet .ensures ∙ sym (bytes-at 26 (padded w) (a .loop .j) (omega arith)))
 
 returns : tie.Need-returns Inv-loop μ-loop
 returns c =
     let a = c .before in
     let w = a .before .before .args .w .now in
-    ext-getD 0 (a .loop .b) (wordBytes w) (omega (arith, length-wordBytes w)) (λ k h. a .loop .inv .2 k (omega arith))
+    filled-list (wordBytes w) (a .loop .inv) (omega arith) (length-wordBytes w)
 
 pub word-bytes-spec : {M : Type 1} → statement M
 word-bytes-spec =
