@@ -1,0 +1,262 @@
+-- The frame of a legal record: its parts, and what is read of its word. Assumes nothing.
+use mathlib.Core.Path.{_≡_, refl, sym, ap, ap₂, _∙_}
+use mathlib.Core.Bool.{Bool, true, false, cond, not}
+use mathlib.Core.Logic.{_≢_}
+use mathlib.Core.List.{List, [], _∷_, _++_, append-assoc}
+use Prim.Native.Nat.{ℕ, zero, suc, _+_, _≤_, _<_}
+use native.Mathlib.Omega.{arith}
+use lib.Dec.{eqb}
+use lib.ListN.{length, take, drop, length-append}
+use borrow.Author.Tests.{eq-eqb, eqb-true}
+use Rattle.bits.specs.Bits.{value, bitsOf, bits}
+use Rattle.bits.specs.Field.{field}
+use Rattle.bits.specs.Layout.{pack, unpack, sum, Fit}
+use Rattle.bits.specs.Segment.{widths, fixedHold}
+use Rattle.bits.specs.Refusal.{firstRefusal, NoneGiven}
+use Rattle.bits.proofs.Bits.{length-bitsOf, length-bytes, bits-bytes, value-bitsOf-fit, value-zeros}
+use Rattle.bits.proofs.Layouts.{length-pack, unpack-pack}
+use Rattle.bits.proofs.Refusal.{refusal-later, refusal-none, none-refusal}
+use Rattle.gf2.specs.Polynomial.{zeros}
+use Rattle.crc.specs.Crc.{crc10, crc10Of}
+use Rattle.crc.proofs.Crc.{length-crc10}
+use Rattle.dsc.specs.Code.{CodeWord, parityOf}
+use Rattle.dsc.specs.Repair.{wordBytes}
+use Rattle.dsc.proofs.Word.{length-word, length-parity, parity-word}
+use Rattle.dsc.proofs.Answers.{length-wordBytes, protected-wordBytes}
+use Rattle.frame.specs.Pattern.{patternWord, patternOf}
+use Rattle.frame.specs.Identification.{classOf, startEndOf, updateOf, flagsWrong, isUndefined}
+use Rattle.frame.specs.Body.{bodyOf, layout, bodyValues}
+use Rattle.frame.specs.Fields.{fields, fieldWidths, recordBody, overLimit, recordOf}
+use Rattle.frame.specs.Read.{identificationIn, bodyIn, valuesIn, recordIn, afterRepair}
+use Rattle.frame.specs.Write.{Legal, announced, messageBits, frameOf}
+use Rattle.frame.specs.declared.Class.{Class}
+use Rattle.frame.specs.declared.Class.the-variants.{Warning, Silent, Undefined}
+use Rattle.frame.specs.declared.Body.{Body}
+use Rattle.frame.specs.declared.Body.the-variants.{AreaPage, PlacePage, CancelPage, NoInformation}
+use Rattle.frame.specs.declared.Record.{Record}
+use Rattle.frame.proofs.Parts.{regroup, take-drop-take, inner-part, FrameParts, frame-parts, WordParts, word-parts}
+use Rattle.frame.proofs.Bodies.{Chosen, area, place, cancel, silent, undefined, chosen, legal-sound, fit-at, body-fit, body-fixed, body-record, body-again, taken}
+
+-- ---- the parts' sizes
+
+pub layout-sum : (b : Body) → sum (widths (layout b)) ≡ 88
+unfolding layout widths sum
+layout-sum AreaPage = refl
+layout-sum PlacePage = refl
+layout-sum CancelPage = refl
+layout-sum NoInformation = refl
+
+pub length-announced : (r : Record) → length (announced r) ≡ 91
+unfolding announced
+length-announced r =
+    let b = recordBody r in
+    length-append (bitsOf 3 (r .identification)) (pack (widths (layout b)) (bodyValues b r))
+    ∙ ap₂ _+_ (length-bitsOf 3 (r .identification)) (length-pack (widths (layout b)) (bodyValues b r) ∙ layout-sum b)
+
+pub length-message : (r : Record) → length (messageBits r) ≡ 105
+unfolding messageBits
+length-message r =
+    simp (length-append, length-bitsOf) (omega (arith, length-announced r, length-crc10 (announced r)))
+
+-- the word of a record: its message and the parity
+abbrev pub wordOf : Record → List Bool
+wordOf r = messageBits r ++ parityOf (messageBits r)
+
+pub record-word : (r : Record) → CodeWord (wordOf r)
+record-word r = parity-word (messageBits r) (length-message r)
+
+-- ---- the whole frame
+
+pub length-frame : (r : Record) → length (frameOf r) ≡ 26
+unfolding frameOf
+length-frame r =
+    length-bytes 26 (bitsOf 1 (r .reference) ++ (bitsOf 16 (patternWord (r .pattern)) ++ (messageBits r ++ (parityOf (messageBits r) ++ zeros 4))))
+
+pub bits-frame : (r : Record) → bits (frameOf r) ≡ bitsOf 1 (r .reference) ++ (bitsOf 16 (patternWord (r .pattern)) ++ (wordOf r ++ zeros 4))
+unfolding frameOf
+bits-frame r =
+    let m = messageBits r in
+    let p = parityOf m in
+    bits-bytes 26 (bitsOf 1 (r .reference) ++ (bitsOf 16 (patternWord (r .pattern)) ++ (m ++ (p ++ zeros 4))))
+    (simp (length-append, length-bitsOf) (omega (arith, length-message r, length-parity m (length-message r))))
+    ∙ ap (λ (l : List Bool). bitsOf 1 (r .reference) ++ (bitsOf 16 (patternWord (r .pattern)) ++ l)) (sym (append-assoc m p (zeros 4)))
+
+pub parts-frame : (r : Record) → FrameParts (frameOf r) (bitsOf 1 (r .reference)) (bitsOf 16 (patternWord (r .pattern))) (wordOf r) (zeros 4)
+parts-frame r =
+    frame-parts (frameOf r) (bitsOf 1 (r .reference)) (bitsOf 16 (patternWord (r .pattern))) (wordOf r) (zeros 4) (length-frame r)
+    (length-bitsOf 1 (r .reference)) (length-bitsOf 16 (patternWord (r .pattern))) (length-word (wordOf r) (record-word r)) (bits-frame r)
+
+-- ---- the fields that every legal record has
+
+pub record Heads (r : Record) : Type 0 where
+  pub reference : r .reference < 2
+  pub pattern : r .pattern < 2
+  pub identification : r .identification < 8
+
+pub heads : (b : Body) (r : Record) → Fit (fieldWidths b) (fields r) → Heads r
+unfolding fieldWidths
+heads AreaPage r f = record { reference = f .0; pattern = f .1 .0; identification = f .1 .1 .0 }
+heads PlacePage r f = record { reference = f .0; pattern = f .1 .0; identification = f .1 .1 .0 }
+heads CancelPage r f = record { reference = f .0; pattern = f .1 .0; identification = f .1 .1 .0 }
+heads NoInformation r f = record { reference = f .0; pattern = f .1 .0; identification = f .1 .1 .0 }
+
+update-lt : (b : Body) (r : Record) {c : Class} → Chosen c (r .page) (r .kind) b → Fit (fieldWidths b) (fields r) → updateOf c (r .update) < 4
+unfolding fieldWidths
+update-lt AreaPage r (area n) f = fit-at (fieldWidths AreaPage) (fields r) f 3
+update-lt PlacePage r (place p n) f = fit-at (fieldWidths PlacePage) (fields r) f 3
+update-lt CancelPage r (cancel p k) f = fit-at (fieldWidths CancelPage) (fields r) f 3
+update-lt NoInformation r silent f = omega arith
+update-lt NoInformation r undefined f = omega (arith, fit-at (fieldWidths NoInformation) (fields r) f 3)
+
+start-lt : (c : Class) → startEndOf c < 4
+start-lt Warning = omega arith
+start-lt Silent = omega arith
+start-lt Undefined = omega arith
+
+-- start/end and update as the class asks
+flags-right : (c : Class) (u : ℕ) → flagsWrong c (startEndOf c) (updateOf c u) ≡ false
+flags-right Warning u = rw (eq-eqb u u refl)
+flags-right Silent u = refl
+flags-right Undefined u = rw (eq-eqb u u refl)
+
+-- ---- the word of a legal record, as bytes: what the reader finds in it
+
+module _ (r : Record) where
+  wordParts : let b = recordBody r in let cl = classOf (r .identification) in
+      WordParts (wordBytes (wordOf r)) (bitsOf 2 (startEndOf cl)) (bitsOf 2 (updateOf cl (r .update))) (bitsOf 3 (r .identification))
+      (pack (widths (layout b)) (bodyValues b r)) (crc10 (announced r))
+  unfolding messageBits announced
+  wordParts =
+      let b = recordBody r in
+      let cl = classOf (r .identification) in
+      let s = bitsOf 2 (startEndOf cl) in
+      let u = bitsOf 2 (updateOf cl (r .update)) in
+      let p = parityOf (messageBits r) in
+      let d = pack (widths (layout b)) (bodyValues b r) in
+      let k = crc10 (announced r) in
+      word-parts (wordBytes (wordOf r)) s u (bitsOf 3 (r .identification)) d k p (length-wordBytes (wordOf r))
+      (length-bitsOf 2 (startEndOf cl)) (length-bitsOf 2 (updateOf cl (r .update))) (length-bitsOf 3 (r .identification))
+      (length-pack (widths (layout b)) (bodyValues b r) ∙ layout-sum b) (length-crc10 (announced r))
+      (protected-wordBytes (wordOf r) (length-word (wordOf r) (record-word r)) ∙ regroup s u (announced r) k p)
+
+pub record Found (r : Record) (c : List ℕ) : Type 0 where
+  pub identification : identificationIn c ≡ r .identification
+  pub start : field c 17 2 ≡ startEndOf (classOf (r .identification))
+  pub update : field c 19 2 ≡ updateOf (classOf (r .identification)) (r .update)
+  pub body : bodyIn c ≡ recordBody r
+  pub values : valuesIn c ≡ bodyValues (recordBody r) r
+  pub covered : take 91 (drop 21 (bits c)) ≡ announced r
+  pub check : field c 112 10 ≡ crc10Of (announced r)
+
+pub word-found : (r : Record) → Fit (fieldWidths (recordBody r)) (fields r) → Found r (wordBytes (wordOf r))
+unfolding announced
+word-found r f =
+    let b = recordBody r in
+    let i = r .identification in
+    let ws = widths (layout b) in
+    let c = wordBytes (wordOf r) in
+    let p = wordParts r in
+    let ch = chosen (classOf i) (r .page) (r .kind) in
+    let identification : identificationIn c ≡ i = ap value (p .identification) ∙ value-bitsOf-fit 3 i (heads b r f .identification) in
+    let bit : (k : ℕ) → k + 1 ≤ 88 → field c (24 + k) 1 ≡ value (take 1 (drop k (pack ws (bodyValues b r)))) =
+    λ k h. ap value (sym (inner-part 1 k 88 24 (bits c) h) ∙ ap (λ (d : List Bool). take 1 (drop k d)) (p .details)) in
+    let body : bodyIn c ≡ b =
+    ap (λ (n : ℕ). bodyOf (classOf n) (field c 55 1) (field c 67 1)) identification
+    ∙ ap₂ (λ (m n : ℕ). bodyOf (classOf i) m n) (bit 31 (omega arith)) (bit 43 (omega arith))
+    ∙ body-again b r ch f in
+    record {
+      identification = identification;
+      start = ap value (p .start) ∙ value-bitsOf-fit 2 (startEndOf (classOf i)) (start-lt (classOf i));
+      update = ap value (p .update) ∙ value-bitsOf-fit 2 (updateOf (classOf i) (r .update)) (update-lt b r ch f);
+      body = body;
+      values = ap₂ (λ (x : Body) (d : List Bool). unpack (widths (layout x)) d) body (p .details) ∙ unpack-pack ws (bodyValues b r) (body-fit b r f);
+      covered = p .covered;
+      check = ap value (p .check);
+    }
+
+-- the record itself, and no refusal but 9
+module _ (r : Record) (f : Fit (fieldWidths (recordBody r)) (fields r)) where
+  pub found-record : recordIn (r .reference) (r .pattern) (wordBytes (wordOf r)) ≡ r
+  found-record =
+      let c = wordBytes (wordOf r) in
+      let b = recordBody r in
+      let x = r .reference in
+      let p = r .pattern in
+      let h = word-found r f in
+      ap₂ (λ (y : Body) (vs : List ℕ). recordOf y x p (identificationIn c) (field c 19 2) vs) (h .body) (h .values)
+      ∙ ap₂ (λ (i u : ℕ). recordOf b x p i u (bodyValues b r)) (h .identification) (h .update)
+      ∙ body-record b r (chosen (classOf (r .identification)) (r .page) (r .kind)) f
+
+  pub found-refusal : isUndefined (classOf (r .identification)) ≡ false
+      → firstRefusal (afterRepair (wordBytes (wordOf r))) ≡ firstRefusal ((9, overLimit (recordBody r) (r .latitude) (r .longitude)) ∷ [])
+  found-refusal known =
+      let c = wordBytes (wordOf r) in
+      let b = recordBody r in
+      let i = r .identification in
+      let h = word-found r f in
+      let t = taken (bodyIn c) (r .reference) (r .pattern) (identificationIn c) (field c 19 2) (valuesIn c) in
+      let latitude : recordIn 0 0 c .latitude ≡ r .latitude = sym (t .latitude) ∙ ap (λ (y : Record). y .latitude) found-record in
+      let longitude : recordIn 0 0 c .longitude ≡ r .longitude = sym (t .longitude) ∙ ap (λ (y : Record). y .longitude) found-record in
+      refusal-later 5 _ (ap not (eq-eqb (field c 112 10) (crc10Of (take 91 (drop 21 (bits c)))) (h .check ∙ sym (ap crc10Of (h .covered)))))
+      ∙ refusal-later 6 _ (ap (λ (n : ℕ). isUndefined (classOf n)) (h .identification) ∙ known)
+      ∙ refusal-later 7 _
+      (ap (λ (n : ℕ). flagsWrong (classOf n) (field c 17 2) (field c 19 2)) (h .identification)
+      ∙ ap₂ (λ (m n : ℕ). flagsWrong (classOf i) m n) (h .start) (h .update)
+      ∙ flags-right (classOf i) (r .update))
+      ∙ refusal-later 8 _ (ap not (ap₂ (λ (y : Body) (vs : List ℕ). fixedHold (layout y) vs) (h .body) (h .values) ∙ body-fixed b r))
+      ∙ ap (λ (t : Bool). firstRefusal ((9, t) ∷ []))
+      (ap (λ (y : Body). overLimit y (recordIn 0 0 c .latitude) (recordIn 0 0 c .longitude)) (h .body)
+      ∙ ap₂ (λ (m n : ℕ). overLimit b m n) latitude longitude)
+
+-- of a legal record none
+pub found-accepted : (r : Record) → Legal r → NoneGiven (afterRepair (wordBytes (wordOf r)))
+found-accepted r l =
+    let s = legal-sound r l in
+    refusal-none (afterRepair (wordBytes (wordOf r))) refl (found-refusal r (s .fit) (s .known) ∙ refusal-later 9 [] (s .limits) ∙ none-refusal [] tt)
+
+-- ---- what stands outside the word
+
+-- each pattern's bits are that pattern
+pub pattern-word : (p : ℕ) → p < 2 → patternOf (patternWord p) ≡ p
+unfolding patternOf
+pattern-word zero h = refl
+pattern-word (suc zero) h = refl
+pattern-word (suc (suc p)) h = absurd (omega arith)
+
+-- and bits that are a pattern are that pattern's
+pub word-pattern : (n : ℕ) → patternOf n ≢ 2 → (patternWord (patternOf n) ≡ n) × (patternOf n < 2)
+unfolding patternOf
+word-pattern n h = go (eqb n 13806) (eqb n 51729) refl refl
+  where
+    go : (s t : Bool) → eqb n 13806 ≡ s → eqb n 51729 ≡ t → (patternWord (patternOf n) ≡ n) × (patternOf n < 2)
+    go true t es et = rw es (sym (eqb-true n 13806 es), omega arith)
+    go false true es et = rw (es, et) (sym (eqb-true n 51729 et), omega arith)
+    go false false es et = absurd (h (rw (es, et)))
+
+patternWord-lt : (p : ℕ) → patternWord p < 65536
+patternWord-lt p = go (eqb p 0)
+  where
+    go : (t : Bool) → cond t 13806 51729 < 65536
+    go true = omega arith
+    go false = omega arith
+
+pub record Outside (r : Record) (f : List ℕ) : Type 0 where
+  pub reference : field f 0 1 ≡ r .reference
+  pub pattern : patternOf (field f 1 16) ≡ r .pattern
+  pub filler : field f 204 4 ≡ 0
+
+-- a frame whose bits outside B17 to B203 are those of a record's frame
+pub outside : (r : Record) → Fit (fieldWidths (recordBody r)) (fields r) → (f : List ℕ) → length f ≡ 26
+    → take 17 (bits f) ≡ take 17 (bits (frameOf r)) → drop 204 (bits f) ≡ drop 204 (bits (frameOf r)) → Outside r f
+outside r fit f h before after =
+    let q = heads (recordBody r) r fit in
+    let p = parts-frame r in
+    let front : (k n : ℕ) → k + n ≤ 17 → take n (drop k (bits f)) ≡ take n (drop k (bits (frameOf r))) =
+    λ k n j. sym (take-drop-take n k 17 (bits f) j) ∙ ap (λ (b : List Bool). take n (drop k b)) before ∙ take-drop-take n k 17 (bits (frameOf r)) j in
+    let sync : field f 1 16 ≡ patternWord (r .pattern) =
+    ap value (front 1 16 (omega arith) ∙ p .pattern) ∙ value-bitsOf-fit 16 (patternWord (r .pattern)) (patternWord-lt (r .pattern)) in
+    record {
+      reference = ap value (front 0 1 (omega arith) ∙ p .reference) ∙ value-bitsOf-fit 1 (r .reference) (q .reference);
+      pattern = ap patternOf sync ∙ pattern-word (r .pattern) (q .pattern);
+      filler = ap value (ap (take 4) after ∙ p .filler) ∙ value-zeros 4;
+    }

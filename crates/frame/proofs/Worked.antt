@@ -1,0 +1,85 @@
+-- The worked examples of the frame hold. Assumes nothing.
+use mathlib.Core.Path.{_≡_, refl, ap, ap₂, _∙_, subst}
+use mathlib.Core.Bool.{Bool, false, not, _||_}
+use mathlib.Core.List.{List, [], _∷_}
+use Prim.Native.Nat.{ℕ, _<_}
+use native.Mathlib.Omega.{arith}
+use lib.Dec.{eqb, ltb}
+use lib.ListN.{replicate}
+use borrow.Author.Tests.{lt-ltb, le-ltb, not-false}
+use Rattle.bits.specs.Bits.{digit, odd, value, bitsOf, bits}
+use Rattle.bits.specs.Layout.{Fit, fitb}
+use Rattle.bits.specs.Refusal.{firstRefusal}
+use Rattle.bits.proofs.Layouts.{fitb-fit}
+use Rattle.bits.proofs.Refusal.{refusal-here, refusal-later, refusal-append-given}
+use Rattle.dsc.specs.Repair.{numberOf, repairOf}
+use Rattle.frame.specs.Pattern.{patternOf}
+use Rattle.frame.specs.Identification.{classOf, isUndefined}
+use Rattle.frame.specs.Fields.{fields, fieldWidths, recordBody, overLimit}
+use Rattle.frame.specs.Read.{beforeRepair, afterRepair, frameRefusal, readOf}
+use Rattle.frame.specs.Write.{Legal, recordRefusal, frameOf}
+use Rattle.frame.specs.Worked.{PlaceAt, placeAt, Worked}
+use Rattle.frame.specs.declared.Class.{Class}
+use Rattle.frame.specs.declared.Body.{Body}
+use Rattle.frame.specs.declared.Body.the-variants.{PlacePage}
+use Rattle.frame.specs.declared.Record.{Record}
+use Rattle.frame.specs.declared.Reading.the-variants.{Refused}
+use Rattle.frame.proofs.Bodies.{Chosen, place, chosen, sound-legal}
+use Rattle.frame.proofs.Frames.{wordOf, length-frame, found-refusal, heads, outside}
+use Rattle.frame.proofs.Readings.{repaired-refusal}
+use Rattle.frame.proofs.Promises.{comes-back, repair-own, refused-read}
+
+place-known : {c : Class} {p k : ℕ} → Chosen c p k PlacePage → isUndefined c ≡ false
+place-known (place e n) = refl
+
+module _ (n : ℕ) (r : Record) (a : PlaceAt n r) where
+  known : isUndefined (classOf (r .identification)) ≡ false
+  known = place-known (subst (Chosen (classOf (r .identification)) (r .page) (r .kind)) (a .body) (chosen (classOf (r .identification)) (r .page) (r .kind)))
+
+  fit : Fit (fieldWidths (recordBody r)) (fields r)
+  fit = fitb-fit (fieldWidths (recordBody r)) (fields r) (not-false (fitb (fieldWidths (recordBody r)) (fields r)) (a .fit))
+
+  -- only the latitude decides
+  limits : overLimit (recordBody r) (r .latitude) (r .longitude) ≡ (ltb 900 n || false)
+  limits =
+      ap (λ (b : Body). overLimit b (r .latitude) (r .longitude)) (a .body)
+      ∙ ap₂ (λ (m : ℕ) (t : Bool). ltb 900 m || t) (a .latitude) (le-ltb 1800 (r .longitude) (a .longitude))
+
+legal : (r : Record) → PlaceAt 900 r → Legal r
+legal r a = sound-legal r (record { known = known 900 r a; fit = fit 900 r a; limits = limits 900 r a })
+
+not-written : (r : Record) → PlaceAt 901 r → recordRefusal r ≡ 9
+unfolding recordRefusal
+not-written r a = refusal-later 6 _ (known 901 r a) ∙ refusal-later 10 _ (a .fit) ∙ refusal-here 9 [] (limits 901 r a)
+
+not-read : (r : Record) → PlaceAt 901 r → readOf (frameOf r) ≡ Refused 9
+not-read r a =
+    let f = frameOf r in
+    let g = fit 901 r a in
+    let o = outside r g f (length-frame r) refl refl in
+    let e : frameRefusal f ≡ 9 =
+    repaired-refusal f (wordOf r) 0 (length-frame r) (o .filler) (λ z. omega (arith, o .pattern, heads (recordBody r) r g .pattern)) (repair-own r)
+    ∙ found-refusal r g (known 901 r a) ∙ refusal-here 9 [] (limits 901 r a) in
+    refused-read f (λ z. omega arith) ∙ ap Refused e
+
+some : (n : ℕ) → n < 1024 → PlaceAt n (placeAt n)
+unfolding placeAt classOf fieldWidths
+some n h = record { body = refl; fit = rw (lt-ltb n 1024 h); longitude = omega arith; latitude = refl }
+
+zero-bytes : readOf (replicate 26 0) ≡ Refused 3
+unfolding frameRefusal firstRefusal patternOf bits bitsOf odd value digit
+zero-bytes =
+    let f : List ℕ = replicate 26 0 in
+    let e : frameRefusal f ≡ 3 = refusal-append-given (beforeRepair f) ((4, not (eqb (numberOf (repairOf f)) 0)) ∷ afterRepair (repairOf f .word)) 3 (omega arith) refl in
+    refused-read f (λ z. omega arith) ∙ ap Refused e
+
+pub worked : Worked
+worked =
+    record {
+      example8-written = legal;
+      example8-read = λ r a. comes-back r (legal r a);
+      example8-not-written = not-written;
+      example8-not-read = not-read;
+      example8-some = some;
+      example10 = zero-bytes;
+    }

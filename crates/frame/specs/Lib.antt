@@ -1,0 +1,11 @@
+pub mod Pattern
+pub mod Identification
+pub mod Body
+pub mod Fields
+pub mod Read
+pub mod Write
+pub mod Area
+pub mod Examined
+pub mod WriterParts
+pub mod Promises
+pub mod Worked

@@ -1,0 +1,105 @@
+-- Judging and reading a frame (document 01, "When the box says no"). Assumes nothing.
+use mathlib.Core.Bool.{Bool, true, false, cond, not}
+use mathlib.Core.List.{List, [], _∷_, _++_}
+use Prim.Native.Nat.{ℕ}
+use lib.Dec.{eqb}
+use lib.ListN.{length, getD, take, drop}
+use Rattle.bits.specs.Bits.{bits, bytes, bitsOf}
+use Rattle.gf2.specs.Polynomial.{zeros}
+use Rattle.bits.specs.Field.{field}
+use Rattle.bits.specs.Layout.{unpack}
+use Rattle.bits.specs.Segment.{widths, fixedBitsHold}
+use Rattle.bits.specs.Refusal.{firstRefusal}
+use Rattle.crc.specs.Crc.{crc10Of}
+use Rattle.dsc.specs.Repair.{protected, numberOf, repairOf}
+use Rattle.dsc.specs.declared.Outcome.{Outcome}
+use Rattle.dsc.specs.declared.Outcome.the-variants as outcome
+use Rattle.frame.specs.Pattern.{patternWord, patternOf}
+use Rattle.frame.specs.Identification.{classOf, updateOf, flagsWrong, isUndefined}
+use Rattle.frame.specs.Body.{bodyOf, layout}
+use Rattle.frame.specs.Fields.{overLimit, recordOf}
+use Rattle.frame.specs.declared.Class.{Class}
+use Rattle.frame.specs.declared.Body.{Body}
+use Rattle.frame.specs.declared.Record.{Record}
+use Rattle.frame.specs.declared.Damage.{Damage}
+use Rattle.frame.specs.declared.Verdict.{Verdict}
+use Rattle.frame.specs.declared.Reading.{Reading}
+use Rattle.frame.specs.declared.Reading.the-variants.{Accepted, Refused}
+
+-- ---- the repaired frame c: 26 bytes that hold the repaired word at B17 to B203
+
+abbrev pub identificationIn : List ℕ → ℕ
+identificationIn c = field c 21 3
+
+abbrev pub classIn : List ℕ → Class
+classIn c = classOf (identificationIn c)
+
+abbrev pub bodyIn : List ℕ → Body
+bodyIn c = bodyOf (classIn c) (field c 55 1) (field c 67 1)
+
+-- B24 to B111
+abbrev pub detailsIn : List ℕ → List Bool
+detailsIn c = take 88 (drop 24 (bits c))
+
+-- the values of the body's segments
+abbrev pub valuesIn : List ℕ → List ℕ
+valuesIn c = unpack (widths (layout (bodyIn c))) (detailsIn c)
+
+-- the record, with the reference and the pattern, which the code does not protect
+abbrev pub recordIn : (reference pattern : ℕ) → List ℕ → Record
+recordIn b p c = recordOf (bodyIn c) b p (identificationIn c) (field c 19 2) (valuesIn c)
+
+-- ---- the tests, in order
+
+-- before the repair
+abbrev pub beforeRepair : List ℕ → List (ℕ × Bool)
+beforeRepair f =
+    (1, not (eqb (length f) 26))
+    ∷ (2, not (eqb (field f 204 4) 0))
+    ∷ (3, eqb (patternOf (field f 1 16)) 2)
+    ∷ []
+
+-- after it: the CRC, the identification, start/end and update, the bits fixed at 1, the house limits
+abbrev pub afterRepair : List ℕ → List (ℕ × Bool)
+afterRepair c =
+    (5, not (eqb (field c 112 10) (crc10Of (take 91 (drop 21 (bits c))))))
+    ∷ (6, isUndefined (classIn c))
+    ∷ (7, flagsWrong (classIn c) (field c 17 2) (field c 19 2))
+    ∷ (8, not (fixedBitsHold (layout (bodyIn c)) (detailsIn c)))
+    ∷ (9, overLimit (bodyIn c) (recordIn 0 0 c .latitude) (recordIn 0 0 c .longitude))
+    ∷ []
+
+-- 1 to 9: the repair gives 4 or nothing, since the frame has 26 bytes by then
+unfoldable pub frameRefusal : List ℕ → ℕ
+frameRefusal f = firstRefusal (beforeRepair f ++ (4, not (eqb (numberOf (repairOf f)) 0)) ∷ afterRepair (repairOf f .word))
+
+-- the number of repaired places of an accepted frame, 0 of another
+unfoldable pub placesIn : List ℕ → ℕ
+placesIn f = cond (eqb (frameRefusal f) 0) (places (repairOf f .outcome)) 0
+  where
+    places : Outcome → ℕ
+    places (outcome.Repaired n) = n
+    places (outcome.Refused n) = 0
+
+-- what `judge` answers
+unfoldable pub judgeOf : List ℕ → Verdict
+judgeOf f = record { number = frameRefusal f; repaired = placesIn f }
+
+-- what `read` answers
+unfoldable pub readOf : List ℕ → Reading
+readOf f =
+    cond (eqb (frameRefusal f) 0)
+    (Accepted (recordIn (field f 0 1) (patternOf (field f 1 16)) (repairOf f .word)) (record { repaired = placesIn f }))
+    (Refused (frameRefusal f))
+
+-- document 01's number and values of a reading
+abbrev pub readingNumber : Reading → ℕ
+readingNumber (Accepted r d) = 0
+readingNumber (Refused n) = n
+
+-- ---- the frame with its damage repaired: its reference, its pattern's bits, the repaired word, the filler
+
+unfoldable pub cleanOf : List ℕ → List ℕ
+cleanOf f =
+    bytes 26
+    (bitsOf 1 (field f 0 1) ++ (bitsOf 16 (patternWord (patternOf (field f 1 16))) ++ (protected (repairOf f .word) ++ zeros 4)))
