@@ -4,9 +4,3 @@ pub mod Frames
 pub mod Readings
 pub mod Promises
 pub mod Worked
-pub mod ReadingDetails
-pub mod ReadingTests
-pub mod ReadingExamined
-pub mod ReadingCleaned
-pub mod WritingParts
-pub mod WritingFrame

@@ -5,7 +5,5 @@ pub mod Fields
 pub mod Read
 pub mod Write
 pub mod Area
-pub mod Examined
-pub mod WriterParts
 pub mod Promises
 pub mod Worked

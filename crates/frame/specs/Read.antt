@@ -3,7 +3,7 @@ use mathlib.Core.Bool.{Bool, true, false, cond, not}
 use mathlib.Core.List.{List, [], _∷_, _++_}
 use Prim.Native.Nat.{ℕ}
 use lib.Dec.{eqb}
-use lib.ListN.{length, getD, take, drop}
+use lib.ListN.{length, take, drop, replicate}
 use Rattle.bits.specs.Bits.{bits, bytes, bitsOf}
 use Rattle.gf2.specs.Polynomial.{zeros}
 use Rattle.bits.specs.Field.{field}
@@ -23,6 +23,7 @@ use Rattle.frame.specs.declared.Body.{Body}
 use Rattle.frame.specs.declared.Record.{Record}
 use Rattle.frame.specs.declared.Damage.{Damage}
 use Rattle.frame.specs.declared.Verdict.{Verdict}
+use Rattle.frame.specs.declared.Cleaned.{Cleaned}
 use Rattle.frame.specs.declared.Reading.{Reading}
 use Rattle.frame.specs.declared.Reading.the-variants.{Accepted, Refused}
 
@@ -103,3 +104,7 @@ unfoldable pub cleanOf : List ℕ → List ℕ
 cleanOf f =
     bytes 26
     (bitsOf 1 (field f 0 1) ++ (bitsOf 16 (patternWord (patternOf (field f 1 16))) ++ (protected (repairOf f .word) ++ zeros 4)))
+
+-- what `clean` answers: the refusal's number, and the frame with its damage repaired, or 26 zeros where it is refused
+unfoldable pub cleanedOf : List ℕ → Cleaned
+cleanedOf f = record { number = frameRefusal f; frame = cond (eqb (frameRefusal f) 0) (cleanOf f) (replicate 26 0) }

@@ -1,14 +1,5 @@
-// The AC warning frame: 204 bits in 26 bytes, judged, read and written.
-mod kinds;
-mod reader;
-mod writer;
-
-pub use reader::clean;
-pub use reader::judge;
-pub use reader::read;
-pub use reader::warned;
-pub use writer::record_refusal;
-pub use writer::write;
+// The AC warning frame, 204 bits in 26 bytes: what it says, and what judging, reading, cleaning and writing it answer. The rules are in
+// specs/; `frame_codec` computes them.
 
 // What an identification announces.
 pub enum Class {

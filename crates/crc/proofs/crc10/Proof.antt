@@ -102,15 +102,16 @@ loop-again c =
     let l = c .before .before .before .before .before .before .loop in
     let k = c .before .before .before .smaller .result in
     let b = bits (now (a .s)) in
+    let run = drop (a .at) b in
     let n = a .count - l .left in
     let p = 8 * l .q + l .o in
     let x = take k (drop p b) in
     let lx : length x ≡ k = length-take-le k (drop p b) (rw (length-drop, length-bits) (omega arith)) in
     let v : bitsOf k (c .before .before .read-part .result) ≡ x = ap₂ bitsOf (sym lx) (c .before .before .read-part .ensures) ∙ bitsOf-value x in
-    let d : drop n (drop (a .at) b) ≡ drop p b = drop-drop n (a .at) b ∙ ap (λ i. drop i b) (l .inv .place) in
+    let d : drop n run ≡ drop p b = drop-drop n (a .at) b ∙ ap (λ i. drop i b) (l .inv .place) in
     let e : n + k ≡ a .count - (l .left - k) = omega arith in
-    let m : take n (drop (a .at) b) ++ x ≡ take (a .count - (l .left - k)) (drop (a .at) b) =
-    ap (λ y. take n (drop (a .at) b) ++ take k y) (sym d) ∙ sym (take-add n k (drop (a .at) b)) ∙ ap (λ i. take i (drop (a .at) b)) e in
+    let m : take n run ++ x ≡ take (a .count - (l .left - k)) run =
+    ap (λ y. take n run ++ take k y) (sym d) ∙ sym (take-add n k run) ∙ ap (λ i. take i run) e in
     record {
       some = omega arith;
       bit = omega arith;
@@ -118,7 +119,7 @@ loop-again c =
       register =
           c .feed10 .ensures
           ∙ ap (λ y. value (feed g10 (bitsOf 10 (l .r)) y)) v
-          ∙ crc10-turn (take n (drop (a .at) b)) x (l .r) (l .inv .register)
+          ∙ crc10-turn (take n run) x (l .r) (l .inv .register)
           ∙ ap crc10Of m;
     }
 

@@ -1,0 +1,104 @@
+// What an identification announces, and which body the details have.
+ghost use mathlib.Core.Path.{_≡_};
+ghost use Rattle.frame.specs.Pattern.{patternWord, patternOf};
+ghost use Rattle.frame.specs.Identification.{classOf, flagsWrong, isUndefined};
+ghost use Rattle.frame.specs.Body.{bodyOf};
+ghost use Rattle.frame.specs.Fields.{overLimit};
+use frame::Body;
+use frame::Class;
+
+// The pattern that B1 to B16 are, and 2 where they are neither.
+pub fn pattern_of(sync: u64) -> u64
+    ensures { λ r. ⌜ r ≡ patternOf sync ⌝ }
+{
+    if sync == 0x35EE {
+        return 0;
+    }
+    if sync == 0xCA11 {
+        return 1;
+    }
+    2
+}
+
+pub fn class_of(identification: u64) -> Class
+    ensures { λ r. ⌜ r ≡ classOf identification ⌝ }
+{
+    if identification <= 3 {
+        return Class::Warning;
+    }
+    if identification == 7 {
+        return Class::Silent;
+    }
+    Class::Undefined
+}
+
+pub fn body_of(class: Class, page: u64, kind: u64) -> Body
+    ensures { λ r. ⌜ r ≡ bodyOf class page kind ⌝ }
+{
+    match class {
+        Class::Warning => {
+            if page != 1 {
+                return Body::AreaPage;
+            }
+            if kind == 1 {
+                return Body::CancelPage;
+            }
+            Body::PlacePage
+        }
+        Class::Silent => Body::NoInformation,
+        Class::Undefined => Body::NoInformation,
+    }
+}
+
+// The bits B1 to B16 of a pattern.
+pub fn pattern_word(pattern: u64) -> u64
+    ensures { λ r. ⌜ r ≡ patternWord pattern ⌝ }
+{
+    if pattern == 0 {
+        return 0x35EE;
+    }
+    0xCA11
+}
+
+pub fn is_undefined(class: Class) -> bool
+    ensures { λ r. ⌜ r ≡ isUndefined class ⌝ }
+{
+    match class {
+        Class::Warning => false,
+        Class::Silent => false,
+        Class::Undefined => true,
+    }
+}
+
+// Start/end and update are not as the class asks.
+pub fn flags_wrong(class: Class, start: u64, update: u64) -> bool
+    ensures { λ r. ⌜ r ≡ flagsWrong class start update ⌝ }
+{
+    match class {
+        Class::Warning => start != 0,
+        Class::Silent => {
+            if start != 3 {
+                return true;
+            }
+            update != 3
+        }
+        Class::Undefined => start != 0,
+    }
+}
+
+// Latitude or longitude is over its limit, in tenths of a degree.
+pub fn over_limit(body: Body, latitude: u64, longitude: u64) -> bool
+    ensures { λ r. ⌜ r ≡ overLimit body latitude longitude ⌝ }
+{
+    match body {
+        Body::AreaPage => false,
+        Body::PlacePage => {
+            if 900 < latitude {
+                return true;
+            }
+            1800 < longitude
+        }
+        Body::CancelPage => false,
+        Body::NoInformation => false,
+    }
+}
