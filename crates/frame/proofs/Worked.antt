@@ -1,24 +1,27 @@
 -- The worked examples of the frame hold. Assumes nothing.
 use mathlib.Core.Path.{_≡_, refl, ap, ap₂, _∙_, subst}
-use mathlib.Core.Bool.{Bool, false, not, _||_}
+use mathlib.Core.Bool.{Bool, true, false, not, _||_}
+use mathlib.Core.Logic.{_≢_}
 use mathlib.Core.List.{List, [], _∷_}
 use Prim.Native.Nat.{ℕ, _<_}
 use native.Mathlib.Omega.{arith}
-use lib.Dec.{eqb, ltb}
+use lib.Dec.{eqb, ltb, T}
 use lib.ListN.{replicate}
-use borrow.Author.Tests.{lt-ltb, le-ltb, not-false}
+use borrow.Author.Tests.{lt-ltb, le-ltb, not-false, ne-eqb}
 use Rattle.bits.specs.Bits.{digit, odd, value, bitsOf, bits}
 use Rattle.bits.specs.Layout.{Fit, fitb}
 use Rattle.bits.specs.Refusal.{firstRefusal}
+use Rattle.bits.proofs.Computed.{below, below-at, T-not}
 use Rattle.bits.proofs.Layouts.{fitb-fit}
 use Rattle.bits.proofs.Refusal.{refusal-here, refusal-later, refusal-append-given}
 use Rattle.dsc.specs.Repair.{numberOf, repairOf}
 use Rattle.frame.specs.Pattern.{patternOf}
 use Rattle.frame.specs.Identification.{classOf, isUndefined}
 use Rattle.frame.specs.Fields.{fields, fieldWidths, recordBody, overLimit}
+use Rattle.frame.specs.Area.{warnedIn}
 use Rattle.frame.specs.Read.{beforeRepair, afterRepair, frameRefusal, readOf}
 use Rattle.frame.specs.Write.{Legal, recordRefusal, frameOf}
-use Rattle.frame.specs.Worked.{PlaceAt, placeAt, Worked}
+use Rattle.frame.specs.Worked.{PlaceAt, placeAt, Worked, areaRecord}
 use Rattle.frame.specs.declared.Class.{Class}
 use Rattle.frame.specs.declared.Body.{Body}
 use Rattle.frame.specs.declared.Body.the-variants.{PlacePage}
@@ -73,6 +76,28 @@ zero-bytes =
     let e : frameRefusal f ≡ 3 = refusal-append-given (beforeRepair f) ((4, not (eqb (numberOf (repairOf f)) 0)) ∷ afterRepair (repairOf f .word)) 3 (omega arith) refl in
     refused-read f (λ z. omega arith) ∙ ap Refused e
 
+all-test : T (below 56 (λ k. warnedIn (areaRecord 0) k))
+unfolding below warnedIn areaRecord odd
+all-test = tt
+
+tokyo-test : T (below 56 (λ k. eqb k 15 || not (warnedIn (areaRecord 0xFFFEFFFFFFFFFF) k)))
+unfolding below warnedIn areaRecord odd
+tokyo-test = tt
+
+T-true : (b : Bool) → T b → b ≡ true
+T-true true t = refl
+T-true false t = absurd t
+
+others-not : (k : ℕ) → k < 56 → k ≢ 15 → warnedIn (areaRecord 0xFFFEFFFFFFFFFF) k ≡ false
+others-not k h ne =
+    T-not (warnedIn (areaRecord 0xFFFEFFFFFFFFFF) k)
+    (subst (λ b. T (b || not (warnedIn (areaRecord 0xFFFEFFFFFFFFFF) k))) (ne-eqb k 15 ne)
+    (below-at 56 (λ k. eqb k 15 || not (warnedIn (areaRecord 0xFFFEFFFFFFFFFF) k)) tokyo-test k h))
+
+tokyo : warnedIn (areaRecord 0xFFFEFFFFFFFFFF) 15 ≡ true
+unfolding warnedIn areaRecord odd
+tokyo = refl
+
 pub worked : Worked
 worked =
     record {
@@ -82,4 +107,9 @@ worked =
       example8-not-read = not-read;
       example8-some = some;
       example10 = zero-bytes;
+      frame-order = λ f. refl;
+      record-order = λ r. refl;
+      all-warned = λ k h. T-true (warnedIn (areaRecord 0) k) (below-at 56 (λ k. warnedIn (areaRecord 0) k) all-test k h);
+      tokyo-warned = tokyo;
+      others-not = others-not;
     }

@@ -11,9 +11,7 @@ use Rattle.bits.specs.Layout.{unpack}
 use Rattle.bits.specs.Segment.{widths, fixedBitsHold}
 use Rattle.bits.specs.Refusal.{firstRefusal}
 use Rattle.crc.specs.Crc.{crc10Of}
-use Rattle.dsc.specs.Repair.{protected, numberOf, repairOf}
-use Rattle.dsc.specs.declared.Outcome.{Outcome}
-use Rattle.dsc.specs.declared.Outcome.the-variants as outcome
+use Rattle.dsc.specs.Repair.{protected, numberOf, placesOf, repairOf}
 use Rattle.frame.specs.Pattern.{patternWord, patternOf}
 use Rattle.frame.specs.Identification.{classOf, updateOf, flagsWrong, isUndefined}
 use Rattle.frame.specs.Body.{bodyOf, layout}
@@ -71,16 +69,15 @@ afterRepair c =
     ∷ []
 
 -- 1 to 9: the repair gives 4 or nothing, since the frame has 26 bytes by then
+abbrev pub frameTests : List ℕ → List (ℕ × Bool)
+frameTests f = beforeRepair f ++ (4, not (eqb (numberOf (repairOf f)) 0)) ∷ afterRepair (repairOf f .word)
+
 unfoldable pub frameRefusal : List ℕ → ℕ
-frameRefusal f = firstRefusal (beforeRepair f ++ (4, not (eqb (numberOf (repairOf f)) 0)) ∷ afterRepair (repairOf f .word))
+frameRefusal f = firstRefusal (frameTests f)
 
 -- the number of repaired places of an accepted frame, 0 of another
 unfoldable pub placesIn : List ℕ → ℕ
-placesIn f = cond (eqb (frameRefusal f) 0) (places (repairOf f .outcome)) 0
-  where
-    places : Outcome → ℕ
-    places (outcome.Repaired n) = n
-    places (outcome.Refused n) = 0
+placesIn f = cond (eqb (frameRefusal f) 0) (placesOf (repairOf f)) 0
 
 -- what `judge` answers
 unfoldable pub judgeOf : List ℕ → Verdict

@@ -18,14 +18,17 @@ use Rattle.frame.specs.Body.{layout, bodyValues}
 use Rattle.frame.specs.Fields.{recordBody, tooWide, overLimit}
 use Rattle.frame.specs.declared.Record.{Record}
 
--- 6, 10, 9, in that order; 0 where the record is legal
-unfoldable pub recordRefusal : Record → ℕ
-recordRefusal r =
-    firstRefusal
-    ((6, isUndefined (classOf (r .identification)))
+-- what a record itself is tested for, in order
+abbrev pub recordTests : Record → List (ℕ × Bool)
+recordTests r =
+    (6, isUndefined (classOf (r .identification)))
     ∷ (10, tooWide r)
     ∷ (9, overLimit (recordBody r) (r .latitude) (r .longitude))
-    ∷ [])
+    ∷ []
+
+-- its refusal, 0 where it is legal
+unfoldable pub recordRefusal : Record → ℕ
+recordRefusal r = firstRefusal (recordTests r)
 
 -- the writer does not refuse it
 abbrev pub Legal : Record → Type 0
