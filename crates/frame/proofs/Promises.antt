@@ -23,7 +23,7 @@ use Rattle.dsc.proofs.Answers.{length-protected, protected-wordBytes, repair-fo
 use Rattle.frame.specs.Pattern.{patternWord, patternOf}
 use Rattle.frame.specs.Fields.{recordBody}
 use Rattle.frame.specs.Read.{identificationIn, bodyIn, valuesIn, recordIn, frameRefusal, placesIn, judgeOf, readOf, readingNumber, cleanOf}
-use Rattle.frame.specs.Write.{Legal, messageBits, frameOf, writeNumber, writeOf}
+use Rattle.frame.specs.Write.{Legal, messageBits, recordRefusal, frameOf, writeNumber, writeOf}
 use Rattle.frame.specs.Promises.{SameOutside, Hit, Mended, Demand2}
 use Rattle.frame.specs.declared.Record.{Record}
 use Rattle.frame.specs.declared.Damage.{Damage}
@@ -239,6 +239,10 @@ unchanged : (r : Record) (s : List ℕ) → writeNumber r (length s) ≢ 0 → w
 unfolding writeOf
 unchanged r s h = rw (ne-eqb (writeNumber r (length s)) 0 h)
 
+legal-exactly : (r : Record) → writeNumber r 26 ≡ recordRefusal r
+unfolding writeNumber
+legal-exactly r = refl
+
 pub demand2 : Demand2
 demand2 =
     record {
@@ -253,6 +257,7 @@ demand2 =
       judged = judged;
       judged-accepted = verdict;
       judged-refused = judged-refused;
+      legal-exactly = legal-exactly;
       written = written;
       unchanged = unchanged;
     }

@@ -11,7 +11,7 @@ use Rattle.gf2.specs.Polynomial.{add}
 use Rattle.dsc.specs.Code.{CodeWord, weight, dist}
 use Rattle.dsc.specs.Repair.{protected}
 use Rattle.frame.specs.Read.{judgeOf, readOf, readingNumber, cleanOf}
-use Rattle.frame.specs.Write.{Legal, frameOf, writeNumber, writeOf}
+use Rattle.frame.specs.Write.{Legal, recordRefusal, frameOf, writeNumber, writeOf}
 use Rattle.frame.specs.declared.Record.{Record}
 use Rattle.frame.specs.declared.Damage.{Damage}
 use Rattle.frame.specs.declared.Reading.the-variants.{Accepted, Refused}
@@ -58,6 +58,8 @@ pub record Demand2 : Type 0 where
   pub judged : (f : List ℕ) → judgeOf f .number ≡ readingNumber (readOf f)
   pub judged-accepted : (f : List ℕ) (r : Record) (d : Damage) → readOf f ≡ Accepted r d → judgeOf f ≡ record { number = 0; repaired = d .repaired }
   pub judged-refused : (f : List ℕ) (n : ℕ) → readOf f ≡ Refused n → (n ≢ 0) × (judgeOf f ≡ record { number = n; repaired = 0 })
+  -- a record is legal exactly when the writer does not refuse it for a buffer of 26 bytes
+  pub legal-exactly : (r : Record) → writeNumber r 26 ≡ recordRefusal r
   -- a legal record's frame is written into a buffer of 26 bytes; at a refusal the buffer stays as it was
   pub written : (r : Record) (s : List ℕ) → Legal r → length s ≡ 26 → writeOf r s ≡ frameOf r
   pub unchanged : (r : Record) (s : List ℕ) → writeNumber r (length s) ≢ 0 → writeOf r s ≡ s
