@@ -22,7 +22,7 @@ use Rattle.dsc.proofs.Distance.{dist-none, dist-same}
 use Rattle.dsc.proofs.Answers.{length-protected, protected-wordBytes, repair-found}
 use Rattle.frame.specs.Pattern.{patternWord, patternOf}
 use Rattle.frame.specs.Fields.{recordBody}
-use Rattle.frame.specs.Read.{identificationIn, bodyIn, valuesIn, recordIn, frameRefusal, placesIn, judgeOf, readOf, readingNumber, cleanOf}
+use Rattle.frame.specs.Read.{identificationIn, bodyIn, valuesIn, recordIn, frameRefusal, placesIn, judgeOf, readOf, readingNumber, readingPlaces, cleanOf}
 use Rattle.frame.specs.Write.{Legal, messageBits, recordRefusal, frameOf, writeNumber, writeOf}
 use Rattle.frame.specs.Promises.{SameOutside, Hit, Mended, Demand2}
 use Rattle.frame.specs.declared.Record.{Record}
@@ -207,13 +207,13 @@ undamaged f r h e =
 
 -- ---- judged and read
 
-judged : (f : List ℕ) → judgeOf f .number ≡ readingNumber (readOf f)
-unfolding judgeOf readOf
+judged : (f : List ℕ) → (judgeOf f .number ≡ readingNumber (readOf f)) × (judgeOf f .repaired ≡ readingPlaces (readOf f))
+unfolding judgeOf readOf placesIn
 judged f = go (eqb (frameRefusal f) 0) refl
   where
-    go : (t : Bool) → eqb (frameRefusal f) 0 ≡ t → judgeOf f .number ≡ readingNumber (readOf f)
-    go true q = rw (eqb-true (frameRefusal f) 0 q)
-    go false q = rw q
+    go : (t : Bool) → eqb (frameRefusal f) 0 ≡ t → (judgeOf f .number ≡ readingNumber (readOf f)) × (judgeOf f .repaired ≡ readingPlaces (readOf f))
+    go true q = rw (eqb-true (frameRefusal f) 0 q) (refl, refl)
+    go false q = rw q (refl, refl)
 
 judged-refused : (f : List ℕ) (n : ℕ) → readOf f ≡ Refused n → (n ≢ 0) × (judgeOf f ≡ record { number = n; repaired = 0 })
 unfolding judgeOf placesIn

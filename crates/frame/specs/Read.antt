@@ -90,10 +90,14 @@ readOf f =
     (Accepted (recordIn (field f 0 1) (patternOf (field f 1 16)) (repairOf f .word)) (record { repaired = placesIn f }))
     (Refused (frameRefusal f))
 
--- document 01's number and values of a reading
+-- document 01's number and values of a reading: 0 with the repaired places and the record, or the refusal's number and nothing else
 abbrev pub readingNumber : Reading → ℕ
 readingNumber (Accepted r d) = 0
 readingNumber (Refused n) = n
+
+abbrev pub readingPlaces : Reading → ℕ
+readingPlaces (Accepted r d) = d .repaired
+readingPlaces (Refused n) = 0
 
 -- ---- the frame with its damage repaired: its reference, its pattern's bits, the repaired word, the filler
 
