@@ -43,7 +43,7 @@ pub fn record(r: Record) {
 
 // The line of frame n.
 pub fn line(n: u64, frame: &[u8]) {
-    let reading = frame_codec::read(frame);
+    let reading = frame_reader::read(frame);
     number(n);
     match reading {
         Reading::Accepted(r, d) => {

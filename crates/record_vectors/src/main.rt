@@ -105,7 +105,7 @@ fn with(body: u64, j: usize, x: u64) -> u64 {
         v[j] = x;
     }
     let mut buffer = [0u8; 26];
-    frame_codec::write(record(&v), &mut buffer) as u64
+    frame_writer::write(record(&v), &mut buffer) as u64
 }
 
 // The writer's answers for field j at 1, at its greatest value, and one above.
@@ -143,7 +143,7 @@ fn written(body: u64) {
     let v = base(body);
     told(
         b"written ",
-        frame_codec::write(record(&v), &mut buffer) as u64,
+        frame_writer::write(record(&v), &mut buffer) as u64,
     );
     text(b" ");
     for i in 0..26 {
@@ -179,18 +179,18 @@ fn buffer_line(n: u64, number: u64, kept: bool) {
 fn buffers() {
     let v = base(1);
     let mut nothing = [255u8; 0];
-    let n = frame_codec::write(record(&v), &mut nothing);
+    let n = frame_writer::write(record(&v), &mut nothing);
     buffer_line(0, n as u64, ones(&nothing));
     let mut short = [255u8; 25];
-    let n = frame_codec::write(record(&v), &mut short);
+    let n = frame_writer::write(record(&v), &mut short);
     buffer_line(25, n as u64, ones(&short));
     let mut long = [255u8; 27];
-    let n = frame_codec::write(record(&v), &mut long);
+    let n = frame_writer::write(record(&v), &mut long);
     buffer_line(27, n as u64, ones(&long));
     let mut bad = base(1);
     bad[12] = 901;
     let mut buffer = [255u8; 26];
-    let n = frame_codec::write(record(&bad), &mut buffer);
+    let n = frame_writer::write(record(&bad), &mut buffer);
     buffer_line(26, n as u64, ones(&buffer));
 }
 

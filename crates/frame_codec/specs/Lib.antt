@@ -1,2 +1,0 @@
-pub mod Examined
-pub mod WriterParts

@@ -1,0 +1,114 @@
+-- The frame with its damage repaired: the reference and the pattern put into the repaired word. Assumes nothing.
+use mathlib.Core.Path.{_≡_, refl, sym, ap, _∙_}
+use mathlib.Core.Bool.{Bool, cond}
+use mathlib.Core.List.{List, _++_}
+use Prim.Native.Nat.{ℕ}
+use native.Mathlib.Omega.{arith}
+use lib.ListN.{length, drop, replicate}
+use lib.Seq.{paste, drop-drop}
+use borrow.Author.Tests.{eq-eqb, ne-eqb, eqb-true, not-false}
+use Rattle.bits.specs.Bits.{bits, bytes, bitsOf}
+use Rattle.bits.specs.Field.{field, putBits, within, putOf}
+use Rattle.bits.proofs.Field.{bits-putOf, length-putOf}
+use Rattle.bits.proofs.Refusal.{refusal-none}
+use Rattle.gf2.specs.Polynomial.{zeros}
+use Rattle.dsc.specs.Repair.{protected, numberOf, repairOf}
+use Rattle.dsc.proofs.Answers.{length-protected, length-wordBytes, bits-wordBytes, protected-wordBytes, answered, repair-found, repair-none}
+use Rattle.dsc.proofs.Majority.{Nearest, one, none, nearest}
+use Rattle.dsc.proofs.Word.{length-word}
+use Rattle.frame.specs.Pattern.{patternWord, patternOf}
+use Rattle.frame.specs.Fields.{recordOf}
+use Rattle.frame.specs.Read.{recordIn, frameRefusal, readOf, cleanOf}
+use Rattle.frame_reader.specs.Examined.{examinedOf}
+use Rattle.frame.specs.Read.{cleanedOf}
+use Rattle.frame.specs.declared.Body.{Body}
+use Rattle.frame.specs.declared.Body.the-variants.{AreaPage, PlacePage, CancelPage, NoInformation}
+use Rattle.frame.specs.declared.Record.{Record}
+use Rattle.frame.specs.declared.Damage.{Damage}
+use Rattle.frame_reader.specs.declared.Examined.{Examined}
+use Rattle.frame.specs.declared.Cleaned.{Cleaned}
+use Rattle.frame.specs.declared.Reading.the-variants.{Accepted, Refused}
+use Rattle.frame_reader.proofs.ReadingExamined.{read-accepted, read-refused}
+
+-- ---- the reference and the pattern of a record that was read
+
+reference-in : (b : Body) (x p i u : ℕ) (vs : List ℕ) → recordOf b x p i u vs .reference ≡ x
+unfolding recordOf
+reference-in AreaPage x p i u vs = refl
+reference-in PlacePage x p i u vs = refl
+reference-in CancelPage x p i u vs = refl
+reference-in NoInformation x p i u vs = refl
+
+pattern-in : (b : Body) (x p i u : ℕ) (vs : List ℕ) → recordOf b x p i u vs .pattern ≡ p
+unfolding recordOf
+pattern-in AreaPage x p i u vs = refl
+pattern-in PlacePage x p i u vs = refl
+pattern-in CancelPage x p i u vs = refl
+pattern-in NoInformation x p i u vs = refl
+
+-- ---- 17 bits put in front
+
+joined : (l : List Bool) (x y : ℕ) → paste (paste l 0 (bitsOf 1 x) 1) 1 (bitsOf 16 y) 16 ≡ bitsOf 1 x ++ (bitsOf 16 y ++ drop 17 l)
+unfolding bitsOf
+joined l x y = ap (λ k. bitsOf 1 x ++ (bitsOf 16 y ++ k)) (drop-drop 16 1 l)
+
+put-front : (w : List ℕ) (x y : ℕ) → length w ≡ 26 → putOf (putOf w 0 1 x) 1 16 y ≡ bytes 26 (bitsOf 1 x ++ (bitsOf 16 y ++ drop 17 (bits w)))
+put-front w x y h =
+    let s = putOf w 0 1 x in
+    let ls : length s ≡ 26 = length-putOf w 0 1 x ∙ h in
+    let first : bits s ≡ paste (bits w) 0 (bitsOf 1 x) 1 = bits-putOf w 0 1 x (ap (λ n. within n 0 1) h) in
+    ap (λ n. cond (within n 1 16) (bytes n (putBits s 1 16 y)) s) ls
+    ∙ ap (λ b. bytes 26 (paste b 1 (bitsOf 16 y) 16)) first
+    ∙ ap (bytes 26) (joined (bits w) x y)
+
+-- ---- the word of an accepted frame
+
+module _ (f : List ℕ) (e : frameRefusal f ≡ 0) where
+  untouched : (length f ≡ 26) × (numberOf (repairOf f) ≡ 0)
+  unfolding frameRefusal
+  untouched =
+      let g = refusal-none _ refl e in
+      (eqb-true (length f) 26 (not-false _ (g .0)), eqb-true (numberOf (repairOf f)) 0 (not-false _ (g .1 .1 .1 .0)))
+
+  word-length : length (repairOf f .word) ≡ 26
+  word-length = answered f (λ r. length (r .word) ≡ 26) (λ c n. length-wordBytes c) refl refl
+
+  after-front : drop 17 (bits (repairOf f .word)) ≡ protected (repairOf f .word) ++ zeros 4
+  after-front = go (nearest (protected f) (length-protected f (untouched .0)))
+    where
+      go : Nearest (protected f) → drop 17 (bits (repairOf f .word)) ≡ protected (repairOf f .word) ++ zeros 4
+      go (one c k d) =
+          let l = length-word c k in
+          rw (repair-found f (untouched .0) c k d, bits-wordBytes c l, protected-wordBytes c l)
+      go (none n) = let z : _≡_ {A = ℕ} 4 0 = sym (ap numberOf (repair-none f (untouched .0) n)) ∙ untouched .1 in absurd (omega arith)
+
+  cleaned-bytes : (r : Record) → r ≡ recordIn (field f 0 1) (patternOf (field f 1 16)) (repairOf f .word)
+      → putOf (putOf (repairOf f .word) 0 1 (r .reference)) 1 16 (patternWord (r .pattern)) ≡ cleanOf f
+  unfolding cleanOf
+  cleaned-bytes r er =
+      let a : r .reference ≡ field f 0 1 = ap (λ (k : Record). k .reference) er ∙ reference-in _ _ _ _ _ _ in
+      let b : r .pattern ≡ patternOf (field f 1 16) = ap (λ (k : Record). k .pattern) er ∙ pattern-in _ _ _ _ _ _ in
+      put-front (repairOf f .word) (r .reference) (patternWord (r .pattern)) word-length
+      ∙ rw (a, b, after-front)
+
+-- ---- what `clean` answers
+
+module _ (f : List ℕ) (x : Examined) (ex : x ≡ examinedOf f) where
+  read-is : x .reading ≡ readOf f
+  unfolding examinedOf
+  read-is = ap (λ (k : Examined). k .reading) ex
+
+  pub cleaned-refused : (n : ℕ) → x .reading ≡ Refused n → _≡_ {A = Cleaned} (record { number = n; frame = replicate 26 0 }) (cleanedOf f)
+  unfolding cleanedOf
+  cleaned-refused n e = let a = read-refused f n (sym read-is ∙ e) in rw (a .number, ne-eqb n 0 (a .some))
+
+  -- s holds the word with the reference put, g the pattern too
+  pub cleaned-accepted : (r : Record) (d : Damage) (s g : List ℕ) (y : ℕ) → x .reading ≡ Accepted r d
+      → s ≡ putOf (x .word) 0 1 (r .reference) → y ≡ patternWord (r .pattern) → g ≡ putOf s 1 16 y
+      → _≡_ {A = Cleaned} (record { number = 0; frame = g }) (cleanedOf f)
+  unfolding cleanedOf examinedOf
+  cleaned-accepted r d s g y e es ey eg =
+      let a = read-accepted f r d (sym read-is ∙ e) in
+      let w : x .word ≡ repairOf f .word = ap (λ (k : Examined). k .word) ex ∙ rw (eq-eqb (frameRefusal f) 0 (a .none)) in
+      let k : g ≡ cleanOf f = eg ∙ rw (es, ey, w) (cleaned-bytes f (a .none) r (a .contents)) in
+      rw (eq-eqb (frameRefusal f) 0 (a .none), a .none) (ap (λ (b : List ℕ). record { number = 0; frame = b }) k)

@@ -1,0 +1,39 @@
+-- `frame_writer::segment_widths` meets its contract. Assumes nothing.
+use Rattle.bits.specs.Segment.{widths}
+use Rattle.frame.specs.Body.{layout}
+use borrow.Author.Needs.{needs}
+use Rattle.frame_writer.proofs.segment_widths.Statement.{statement}
+use Rattle.frame_writer.proofs.segment_widths.Tie as tie
+
+enum-told : tie.Need-enum-told
+enum-told c = search needs
+
+enum-told-2 : tie.Need-enum-told-2
+enum-told-2 c = search needs
+
+enum-told-3 : tie.Need-enum-told-3
+enum-told-3 c = search needs
+
+enum-told-4 : tie.Need-enum-told-4
+enum-told-4 c = search needs
+
+returns : tie.Need-returns
+unfolding layout widths
+returns c = rw (c .enum-told .given .1)
+
+returns-2 : tie.Need-returns-2
+unfolding layout widths
+returns-2 c = rw (c .enum-told2 .given .1)
+
+returns-3 : tie.Need-returns-3
+unfolding layout widths
+returns-3 c = rw (c .enum-told3 .given .1)
+
+returns-4 : tie.Need-returns-4
+unfolding layout widths
+returns-4 c = rw (c .enum-told4 .given .1)
+
+pub segment-widths-spec : {M : Type 1} → statement M
+segment-widths-spec =
+    tie.close
+    (tie.spec enum-told enum-told-2 enum-told-3 enum-told-4 returns returns-2 returns-3 returns-4)
