@@ -213,7 +213,7 @@ fn all_ones(w: usize, v: u64) -> bool
 }
 
 // A segment of the given kind and width holds v, if that is fixed.
-fn segment_holds(kind: u8, w: usize, v: u64) -> bool
+pub fn segment_holds(kind: u8, w: usize, v: u64) -> bool
     ensures { λ r. ⌜ r ≡ holds (segment kind w) v ⌝ }
 {
     if kind == 0 {
