@@ -1,0 +1,7 @@
+pub mod Equality
+pub mod Inverse
+pub mod Search
+pub mod Cases
+pub mod Flags
+pub mod Places
+pub mod Promises

@@ -1,0 +1,4 @@
+pub mod Degrees
+pub mod Desk
+pub mod Candidate
+pub mod Promises
