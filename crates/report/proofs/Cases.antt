@@ -1,0 +1,35 @@
+-- The cases of a report. Assumes nothing.
+use mathlib.Core.Path.{_≡_, _∙_, refl, sym, ap, ap₂, subst}
+use mathlib.Core.Bool.{Bool, true, false, cond}
+use mathlib.Core.Logic.{_≢_}
+use Prim.Native.Nat.{ℕ}
+use lib.Dec.{eqb}
+use borrow.Author.Tests.{eq-eqb, ne-eqb}
+use Rattle.frame.specs.Identification.{classOf}
+use Rattle.frame.specs.Body.{bodyOf}
+use Rattle.frame.specs.Fields.{recordBody}
+use Rattle.frame.specs.Write.{Legal, recordRefusal}
+use Rattle.frame.specs.declared.Class.{Class}
+use Rattle.frame.specs.declared.Body.{Body}
+use Rattle.frame.specs.declared.Record.{Record}
+use Rattle.report.specs.declared.Reported.{Reported}
+use Rattle.report.specs.declared.Reported.the-variants.{Refused}
+use Rattle.report.specs.Report.{reportedBy, reportOf}
+
+-- a legal record reports by its body
+pub legal : (r : Record) → Legal r → reportOf r ≡ reportedBy (recordBody r) r
+unfolding reportOf
+legal r e = ap (λ (b : Bool). cond b (reportedBy (recordBody r) r) (Refused (recordRefusal r))) (eq-eqb (recordRefusal r) 0 e)
+
+pub refused : (r : Record) → recordRefusal r ≢ 0 → reportOf r ≡ Refused (recordRefusal r)
+unfolding reportOf
+refused r h = ap (λ (b : Bool). cond b (reportedBy (recordBody r) r) (Refused (recordRefusal r))) (ne-eqb (recordRefusal r) 0 h)
+
+-- as the function comes to them
+pub report-refused : (r : Record) (n : ℕ) → n ≡ recordRefusal r → n ≢ 0 → Refused n ≡ reportOf r
+report-refused r n e h = ap Refused e ∙ sym (refused r (λ z. h (e ∙ z)))
+
+pub report-legal : (r : Record) (n : ℕ) (c : Class) (b : Body) {a : Reported} → n ≡ recordRefusal r → n ≡ 0 → c ≡ classOf (r .identification)
+    → b ≡ bodyOf c (r .page) (r .kind) → a ≡ reportedBy b r → a ≡ reportOf r
+report-legal r n c b e z k p q =
+    q ∙ ap (λ (x : Body). reportedBy x r) (p ∙ ap (λ (x : Class). bodyOf x (r .page) (r .kind)) k) ∙ sym (legal r (sym e ∙ z))

@@ -1,0 +1,55 @@
+-- `report::report_by` meets its contract. Assumes nothing.
+use mathlib.Core.Path.{_≡_, sym}
+use borrow.Author.Needs.{needs}
+use Rattle.report.proofs.report_by.Statement.{statement}
+use Rattle.report.proofs.report_by.Tie as tie
+
+enum-told : tie.Need-enum-told
+enum-told c = search needs
+
+enum-told-2 : tie.Need-enum-told-2
+enum-told-2 c = search needs
+
+degrees-requires : tie.Need-degrees-requires
+degrees-requires c κs = search needs
+
+degrees-requires-2 : tie.Need-degrees-requires-2
+degrees-requires-2 c κs = search needs
+
+kilometres-requires : tie.Need-kilometres-requires
+kilometres-requires c κs = search needs
+
+enum-told-3 : tie.Need-enum-told-3
+enum-told-3 c = search needs
+
+enum-told-4 : tie.Need-enum-told-4
+enum-told-4 c = search needs
+
+returns : tie.Need-returns
+returns c = simp (c .enum-told .given .1)
+
+returns-2 : tie.Need-returns-2
+returns-2 c =
+    simp (c .before .before .before .enum-told2 .given .1, c .before .before .degrees .ensures, c .before .degrees2 .ensures, c .kilometres .ensures)
+
+returns-3 : tie.Need-returns-3
+returns-3 c = simp (c .enum-told3 .given .1)
+
+returns-4 : tie.Need-returns-4
+returns-4 c = simp (c .enum-told4 .given .1)
+
+pub report-by-spec : {M : Type 1} → statement M
+report-by-spec =
+    tie.close
+    (tie.spec
+    enum-told
+    enum-told-2
+    degrees-requires
+    degrees-requires-2
+    kilometres-requires
+    enum-told-3
+    enum-told-4
+    returns
+    returns-2
+    returns-3
+    returns-4)

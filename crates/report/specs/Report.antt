@@ -1,0 +1,31 @@
+-- What a record reports (document 01, "The place in degrees"). Assumes nothing.
+use mathlib.Core.Bool.{cond}
+use Prim.Native.Nat.{ℕ}
+use lib.Dec.{eqb}
+use Rattle.frame.specs.Fields.{recordBody}
+use Rattle.frame.specs.Write.{recordRefusal}
+use Rattle.frame.specs.declared.Body.{Body}
+use Rattle.frame.specs.declared.Body.the-variants.{AreaPage, PlacePage, CancelPage, NoInformation}
+use Rattle.frame.specs.declared.Record.{Record}
+use Rattle.place.specs.Degrees.{degreesOf, kilometresOf}
+use Rattle.report.specs.declared.Reported.{Reported}
+use Rattle.report.specs.declared.Reported.the-variants.{Place, Cancellation, AreasOnly, Nothing, Refused}
+
+-- by the body of the record
+abbrev pub reportedBy : Body → Record → Reported
+reportedBy AreaPage r = AreasOnly
+reportedBy PlacePage r = Place (degreesOf (r .south) (r .latitude)) (degreesOf (r .west) (r .longitude)) (kilometresOf (r .depth))
+reportedBy CancelPage r = Cancellation
+reportedBy NoInformation r = Nothing
+
+-- what `report` answers: for a record that is not legal the writer's 6, 10 or 9
+unfoldable pub reportOf : Record → Reported
+reportOf r = cond (eqb (recordRefusal r) 0) (reportedBy (recordBody r) r) (Refused (recordRefusal r))
+
+-- document 01's number of a report
+abbrev pub reportNumber : Reported → ℕ
+reportNumber (Place n m d) = 0
+reportNumber Cancellation = 0
+reportNumber AreasOnly = 0
+reportNumber Nothing = 0
+reportNumber (Refused n) = n

@@ -1,0 +1,49 @@
+// What a record reports.
+ghost use mathlib.Core.Path.{_≡_};
+ghost use Rattle.report.specs.Report.{reportedBy, reportOf};
+use frame::Body;
+use frame::Record;
+
+// A place with its three doubles, a cancellation, areas only, nothing, or the writer's refusal of the record.
+pub enum Reported {
+    Place {
+        latitude: f64,
+        longitude: f64,
+        depth: f64,
+    },
+    Cancellation,
+    AreasOnly,
+    Nothing,
+    Refused(u8),
+}
+
+// What a legal record reports, by its body.
+fn report_by(body: Body, message: Record) -> Reported
+    ensures { λ r. ⌜ r ≡ reportedBy body message ⌝ }
+{
+    match body {
+        Body::AreaPage => Reported::AreasOnly,
+        Body::PlacePage => Reported::Place {
+            latitude: place::degrees(message.south, message.latitude),
+            longitude: place::degrees(message.west, message.longitude),
+            depth: place::kilometres(message.depth),
+        },
+        Body::CancelPage => Reported::Cancellation,
+        Body::NoInformation => Reported::Nothing,
+    }
+}
+
+// What any record reports.
+pub fn report(message: Record) -> Reported
+    ensures { λ r. ⌜ r ≡ reportOf message ⌝ }
+{
+    let refusal = frame_writer::record_refusal(message);
+    if refusal != 0 {
+        return Reported::Refused(refusal);
+    }
+    let class = frame_kinds::class_of(message.identification);
+    report_by(
+        frame_kinds::body_of(class, message.page, message.kind),
+        message,
+    )
+}
