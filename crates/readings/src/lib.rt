@@ -77,3 +77,27 @@ pub fn run() {
         n += 1;
     }
 }
+
+// The record of 18 fields in their order.
+pub fn record_of(v: &[u64; 18]) -> Record {
+    Record {
+        reference: v[0],
+        pattern: v[1],
+        identification: v[2],
+        update: v[3],
+        time: v[4],
+        page: v[5],
+        areas: v[6],
+        total: v[7],
+        item: v[8],
+        number: v[9],
+        kind: v[10],
+        south: v[11],
+        latitude: v[12],
+        west: v[13],
+        longitude: v[14],
+        depth: v[15],
+        occurred: v[16],
+        broadcaster: v[17],
+    }
+}

@@ -1,6 +1,5 @@
 // The frame writer on records of every sort: each identification, each field at its limit and past it, each unused field set, buffers
 // of every length around 26.
-use frame::Record;
 use libc::STDOUT_FILENO;
 
 fn text(s: &[u8]) {
@@ -10,30 +9,6 @@ fn text(s: &[u8]) {
 fn told(s: &[u8], n: u64) {
     text(s);
     readings::number(n);
-}
-
-// The record of 18 fields in their order.
-fn record(v: &[u64; 18]) -> Record {
-    Record {
-        reference: v[0],
-        pattern: v[1],
-        identification: v[2],
-        update: v[3],
-        time: v[4],
-        page: v[5],
-        areas: v[6],
-        total: v[7],
-        item: v[8],
-        number: v[9],
-        kind: v[10],
-        south: v[11],
-        latitude: v[12],
-        west: v[13],
-        longitude: v[14],
-        depth: v[15],
-        occurred: v[16],
-        broadcaster: v[17],
-    }
 }
 
 // A record of each body: 0 areas, 1 place, 2 cancellation, 3 no information.
@@ -105,7 +80,7 @@ fn with(body: u64, j: usize, x: u64) -> u64 {
         v[j] = x;
     }
     let mut buffer = [0u8; 26];
-    frame_writer::write(record(&v), &mut buffer) as u64
+    frame_writer::write(readings::record_of(&v), &mut buffer) as u64
 }
 
 // The writer's answers for field j at 1, at its greatest value, and one above.
@@ -143,7 +118,7 @@ fn written(body: u64) {
     let v = base(body);
     told(
         b"written ",
-        frame_writer::write(record(&v), &mut buffer) as u64,
+        frame_writer::write(readings::record_of(&v), &mut buffer) as u64,
     );
     text(b" ");
     for i in 0..26 {
@@ -179,18 +154,18 @@ fn buffer_line(n: u64, number: u64, kept: bool) {
 fn buffers() {
     let v = base(1);
     let mut nothing = [255u8; 0];
-    let n = frame_writer::write(record(&v), &mut nothing);
+    let n = frame_writer::write(readings::record_of(&v), &mut nothing);
     buffer_line(0, n as u64, ones(&nothing));
     let mut short = [255u8; 25];
-    let n = frame_writer::write(record(&v), &mut short);
+    let n = frame_writer::write(readings::record_of(&v), &mut short);
     buffer_line(25, n as u64, ones(&short));
     let mut long = [255u8; 27];
-    let n = frame_writer::write(record(&v), &mut long);
+    let n = frame_writer::write(readings::record_of(&v), &mut long);
     buffer_line(27, n as u64, ones(&long));
     let mut bad = base(1);
     bad[12] = 901;
     let mut buffer = [255u8; 26];
-    let n = frame_writer::write(record(&bad), &mut buffer);
+    let n = frame_writer::write(readings::record_of(&bad), &mut buffer);
     buffer_line(26, n as u64, ones(&buffer));
 }
 
