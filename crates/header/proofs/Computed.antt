@@ -1,0 +1,75 @@
+-- Computed: the order of the tests, what the sample header is refused for, and its CRC without a frame and with one. Assumes nothing.
+use mathlib.Core.Path.{_≡_, refl}
+use mathlib.Core.Bool.{false}
+use mathlib.Core.List.{List, [], _∷_}
+use Prim.Native.Nat.{ℕ}
+use lib.ListN.{take, drop}
+use Rattle.gf2.specs.Polynomial.{poly, add, scale, remainder, checkBits, member}
+use Rattle.bits.specs.Bits.{digit, odd, value, bitsOf, bits, bytes}
+use Rattle.bits.specs.Layout.{pack}
+use Rattle.bits.specs.Segment.{widths, freeWidths, withFixed}
+use Rattle.bits.specs.Refusal.{firstRefusal}
+use Rattle.crc.specs.Crc.{crc, crc10, crc32}
+use Rattle.dsc.specs.Code.{powers, generatorLow, parityOf}
+use Rattle.frame.specs.Identification.{classOf}
+use Rattle.frame.specs.Body.{layout, bodyValues}
+use Rattle.frame.specs.Fields.{fieldWidths}
+use Rattle.frame.specs.Write.{announced, messageBits, frameOf, Legal, recordRefusal as frameRecordRefusal}
+use Rattle.frame.specs.Worked.{areaRecord}
+use Rattle.header.specs.Layout.{frontLayout, extensionLayout}
+use Rattle.header.specs.Fields.{pairs, frontFields, extensionFields, Sized}
+use Rattle.header.specs.Tests.{among, tooWide}
+use Rattle.header.specs.Header.{headerTests, sealed, headerOf, recordTests, recordRefusal}
+use Rattle.header.specs.Laying.{withAc}
+use Rattle.header.specs.Promises.{numbers}
+use Rattle.header.specs.Worked.{sample}
+use Rattle.header.specs.declared.Header.{Header}
+
+pub header-order : (h : List ℕ) → numbers (headerTests h) ≡ 1 ∷ 12 ∷ 13 ∷ 14 ∷ 15 ∷ []
+header-order h = refl
+
+pub record-order : (r : Header) → numbers (recordTests r) ≡ 10 ∷ 12 ∷ 14 ∷ 15 ∷ []
+record-order r = refl
+
+-- a sample whose fields fit, and what it is refused for
+abbrev pub Found : (packet form state number : ℕ) → Type 0
+Found p n s number = (tooWide (sample p n s) ≡ false) × (recordRefusal (sample p n s) ≡ number)
+
+pub record Refusals : Type 0 where
+  pub legal : Found 0x47000000 1 0 0
+  pub form : Found 0x47000000 2 0 14
+  pub state : Found 0x47000000 1 3 15
+  pub sync-first : Found 0x46000000 2 3 12
+  pub form-first : Found 0x47000000 2 3 14
+  pub state-wide : recordRefusal (sample 0x47000000 1 4) ≡ 10
+  pub form-wide : recordRefusal (sample 0x47000000 16 0) ≡ 10
+
+pub refusals : Refusals
+unfolding sample recordRefusal firstRefusal tooWide among freeWidths frontLayout extensionLayout pairs frontFields extensionFields
+refusals =
+    record {
+      legal = (refl, refl);
+      form = (refl, refl);
+      state = (refl, refl);
+      sync-first = (refl, refl);
+      form-first = (refl, refl);
+      state-wide = refl;
+      form-wide = refl;
+    }
+
+pub sample-sized : (p n s : ℕ) → Sized (sample p n s)
+unfolding sample
+sample-sized p n s = record { valid = refl; streams = refl; networks = refl; states = refl; slots = refl; ac = refl }
+
+-- the warning for all areas is a legal record
+pub warning-legal : Legal (areaRecord 0)
+unfolding areaRecord frameRecordRefusal firstRefusal classOf fieldWidths
+warning-legal = refl
+
+pub crc-alone : drop 184 (headerOf (sample 0x47000000 1 0)) ≡ 0xE7 ∷ 0x60 ∷ 0xA5 ∷ 0x71 ∷ []
+unfolding add scale remainder digit odd value bitsOf bits bytes pack widths withFixed crc crc32 frontLayout extensionLayout pairs frontFields extensionFields sealed headerOf sample
+crc-alone = refl
+
+pub crc-with-frame : drop 184 (withAc (headerOf (sample 0x47000000 1 0)) (take 204 (bits (frameOf (areaRecord 0))))) ≡ 0xB0 ∷ 0xAC ∷ 0x5A ∷ 0x53 ∷ []
+unfolding add scale remainder digit odd value bitsOf bits bytes pack widths withFixed crc crc32 frontLayout extensionLayout pairs frontFields extensionFields sealed headerOf sample withAc poly member checkBits crc10 powers generatorLow parityOf classOf layout bodyValues announced messageBits frameOf areaRecord
+crc-with-frame = refl
