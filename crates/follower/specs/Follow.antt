@@ -1,0 +1,75 @@
+-- Following the update number (document 01, "Following the update number"). Assumes nothing.
+use mathlib.Core.Bool.{Bool, true, false, cond}
+use mathlib.Core.List.{List}
+use Prim.Native.Nat.{ℕ, _+_, _%_}
+use lib.Dec.{eqb, leb}
+use Rattle.frame.specs.Identification.{classOf}
+use Rattle.frame.specs.Read.{readOf}
+use Rattle.frame.specs.declared.Class.{Class}
+use Rattle.frame.specs.declared.Class.the-variants as class
+use Rattle.frame.specs.declared.Record.{Record}
+use Rattle.frame.specs.declared.Reading.{Reading}
+use Rattle.frame.specs.declared.Reading.the-variants as reading
+use Rattle.follower.specs.declared.Kind.{Kind}
+use Rattle.follower.specs.declared.Kind.the-variants.{Real, Test}
+use Rattle.follower.specs.declared.Seen.{Seen}
+use Rattle.follower.specs.declared.Seen.the-variants as seen
+use Rattle.follower.specs.declared.Event.{Event}
+use Rattle.follower.specs.declared.Event.the-variants as event
+use Rattle.follower.specs.declared.Follower.{Follower}
+use Rattle.follower.specs.declared.Follower.the-variants.{Quiet, Active}
+use Rattle.follower.specs.declared.Step.{Step}
+
+-- real (0, 1), test (2, 3)
+unfoldable pub kindOf : (identification : ℕ) → Kind
+kindOf i = cond (leb i 1) Real Test
+
+abbrev pub sameKind : Kind → Kind → Bool
+sameKind Real Real = true
+sameKind Real Test = false
+sameKind Test Real = false
+sameKind Test Test = true
+
+-- same kind: u equal "same", u+1 mod 4 "changed", otherwise "skipped"; the old number may be any
+unfoldable pub changeOf : (old new : ℕ) → Event
+changeOf old new = cond (eqb new old) event.Same (cond (eqb new ((old + 1) % 4)) event.Changed event.Skipped)
+
+-- a warning from quiet, or of the other kind: "begins"
+abbrev pub warningEvent : Follower → Kind → ℕ → Event
+warningEvent Quiet k u = event.Begins
+warningEvent (Active h v) k u = cond (sameKind h k) (changeOf v u) event.Begins
+
+-- no information: from quiet "quiet", else "ended"
+abbrev pub silenceEvent : Follower → Event
+silenceEvent Quiet = event.Quiet
+silenceEvent (Active h v) = event.Ended
+
+-- the next state and the event: a refused frame keeps the state, no information makes it quiet, and a warning's update number is always held
+abbrev pub stepSeen : Follower → Seen → Step
+stepSeen s (seen.Refused n) = record { next = s; event = event.Refused n }
+stepSeen s seen.Silence = record { next = Quiet; event = silenceEvent s }
+stepSeen s (seen.Warning k u) = record { next = Active k u; event = warningEvent s k u }
+
+-- what an accepted frame's record shows; it is never undefined
+abbrev pub seenIn : Class → Record → Seen
+seenIn class.Warning r = seen.Warning (kindOf (r .identification)) (r .update)
+seenIn class.Silent r = seen.Silence
+seenIn class.Undefined r = seen.Refused 6
+
+abbrev pub seenOf : Reading → Seen
+seenOf (reading.Accepted r d) = seenIn (classOf (r .identification)) r
+seenOf (reading.Refused n) = seen.Refused n
+
+-- what `step` answers
+unfoldable pub stepOf : Follower → List ℕ → Step
+stepOf s f = stepSeen s (seenOf (readOf f))
+
+-- document 01's number of an event
+abbrev pub eventNumber : Event → ℕ
+eventNumber (event.Refused n) = n
+eventNumber event.Quiet = 0
+eventNumber event.Ended = 0
+eventNumber event.Begins = 0
+eventNumber event.Same = 0
+eventNumber event.Changed = 0
+eventNumber event.Skipped = 0

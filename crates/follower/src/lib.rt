@@ -1,0 +1,164 @@
+// Following the update number: the old state goes in by value, the next one comes back with an event.
+ghost use mathlib.Core.Path.{_≡_};
+ghost use Rattle.follower.specs.declared.Follower.the-variants.{Quiet};
+ghost use Rattle.follower.specs.Follow.{kindOf, sameKind, changeOf, warningEvent, seenIn, seenOf, stepSeen, stepOf};
+use frame::Class;
+use frame::Reading;
+use frame::Record;
+
+// What a warning is: identification 0 and 1 are real, 2 and 3 a test.
+pub enum Kind {
+    Real,
+    Test,
+}
+
+// What a frame shows to the follower.
+pub enum Seen {
+    Warning(Kind, u64),
+    Silence,
+    Refused(u8),
+}
+
+pub enum Event {
+    Quiet,
+    Ended,
+    Begins,
+    Same,
+    Changed,
+    Skipped,
+    Refused(u8),
+}
+
+// The state: quiet, or a warning of this kind with its update number.
+pub enum Follower {
+    Quiet,
+    Active(Kind, u64),
+}
+
+pub struct Step {
+    pub next: Follower,
+    pub event: Event,
+}
+
+fn kind_of(identification: u64) -> Kind
+    ensures { λ r. ⌜ r ≡ kindOf identification ⌝ }
+{
+    if identification <= 1 {
+        return Kind::Real;
+    }
+    Kind::Test
+}
+
+// How the update number went. The old one may be any number, so that it is cut down before 1 is added.
+fn change(old: u64, new: u64) -> Event
+    ensures { λ r. ⌜ r ≡ changeOf old new ⌝ }
+{
+    if new == old {
+        return Event::Same;
+    }
+    if new == (old % 4 + 1) % 4 {
+        return Event::Changed;
+    }
+    Event::Skipped
+}
+
+fn same_kind(one: Kind, other: Kind) -> bool
+    ensures { λ r. ⌜ r ≡ sameKind one other ⌝ }
+{
+    match one {
+        Kind::Real => match other {
+            Kind::Real => true,
+            Kind::Test => false,
+        },
+        Kind::Test => match other {
+            Kind::Real => false,
+            Kind::Test => true,
+        },
+    }
+}
+
+// The event of a warning.
+fn warning_event(state: Follower, kind: Kind, update: u64) -> Event
+    ensures { λ r. ⌜ r ≡ warningEvent state kind update ⌝ }
+{
+    match state {
+        Follower::Quiet => Event::Begins,
+        Follower::Active(held, old) => {
+            if same_kind(held, kind) {
+                return change(old, update);
+            }
+            Event::Begins
+        }
+    }
+}
+
+// What an accepted frame's record shows.
+fn seen_in(class: Class, message: Record) -> Seen
+    ensures { λ r. ⌜ r ≡ seenIn class message ⌝ }
+{
+    match class {
+        Class::Warning => Seen::Warning(kind_of(message.identification), message.update),
+        Class::Silent => Seen::Silence,
+        Class::Undefined => Seen::Refused(6),
+    }
+}
+
+// What a frame shows.
+fn seen_of(reading: Reading) -> Seen
+    ensures { λ r. ⌜ r ≡ seenOf reading ⌝ }
+{
+    match reading {
+        Reading::Refused(n) => Seen::Refused(n),
+        Reading::Accepted(message, damage) => seen_in(
+            frame_kinds::class_of(message.identification),
+            message,
+        ),
+    }
+}
+
+impl Follower {
+    pub fn new() -> Self
+        ensures { λ r. ⌜ r ≡ Quiet ⌝ }
+    {
+        Follower::Quiet
+    }
+
+    pub fn reset(self) -> Self
+        ensures { λ r. ⌜ r ≡ Quiet ⌝ }
+    {
+        Follower::new()
+    }
+
+    // What was seen, followed.
+    fn follow(self, seen: Seen) -> Step
+        ensures { λ r. ⌜ r ≡ stepSeen self seen ⌝ }
+    {
+        match seen {
+            Seen::Refused(n) => Step {
+                next: self,
+                event: Event::Refused(n),
+            },
+            Seen::Silence => match self {
+                Follower::Quiet => Step {
+                    next: Follower::Quiet,
+                    event: Event::Quiet,
+                },
+                Follower::Active(kind, old) => Step {
+                    next: Follower::Quiet,
+                    event: Event::Ended,
+                },
+            },
+            Seen::Warning(kind, update) => Step {
+                next: Follower::Active(kind, update),
+                event: warning_event(self, kind, update),
+            },
+        }
+    }
+
+    // A frame followed, for any state and any bytes.
+    pub fn step(self, frame: &[u8]) -> Step
+        ensures { λ r. ⌜ r ≡ stepOf self (now (frame .entry)) ⌝ }
+    {
+        self.follow(seen_of(frame_reader::read(frame)))
+    }
+}
