@@ -1,0 +1,16 @@
+-- `capture::numbers` meets its contract. Assumes nothing.
+use borrow.Author.Needs.{needs}
+use Rattle.capture.proofs.numbers.Statement.{statement}
+use Rattle.capture.proofs.numbers.Tie as tie
+
+number-requires : tie.Need-number-requires
+number-requires c κs = search needs
+
+number-requires-2 : tie.Need-number-requires-2
+number-requires-2 c κs = search needs
+
+returns : tie.Need-returns
+returns c = rw (c .before .number .ensures, c .number2 .ensures)
+
+pub numbers-spec : {M : Type 1} → statement M
+numbers-spec = tie.close (tie.spec number-requires number-requires-2 returns)

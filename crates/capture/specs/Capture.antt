@@ -1,0 +1,46 @@
+-- Frames in two captures (document 01, "Two tuners"). Assumes nothing.
+use mathlib.Core.Bool.{cond}
+use mathlib.Core.List.{List, []}
+use Prim.Native.Nat.{ℕ, _+_, _*_}
+use lib.Dec.{eqb, leb}
+use lib.ListN.{length, take, drop}
+use Rattle.frame.specs.Read.{frameRefusal}
+use Rattle.capture.specs.declared.Tuner.{Tuner}
+use Rattle.capture.specs.declared.Tuner.the-variants.{Neither, Main, Spare}
+use Rattle.capture.specs.declared.TunerNumbers.{TunerNumbers}
+
+-- frame n's bytes
+abbrev pub partAt : List ℕ → ℕ → List ℕ
+partAt c n = take 26 (drop (26 * n) c)
+
+-- a tuner's number for frame n: 1 where its 26 bytes do not all lie in the capture c
+unfoldable pub numberAt : List ℕ → ℕ → ℕ
+numberAt c n = cond (leb (26 * n + 26) (length c)) (frameRefusal (partAt c n)) 1
+
+-- what `numbers` answers
+abbrev pub numbersOf : (main spare : List ℕ) → ℕ → TunerNumbers
+numbersOf main spare n = record { main = numberAt main n; spare = numberAt spare n }
+
+-- the main one if accepted there, otherwise the spare one if accepted there
+unfoldable pub sourceOf : (main spare : List ℕ) → ℕ → Tuner
+sourceOf main spare n = cond (eqb (numberAt main n) 0) Main (cond (eqb (numberAt spare n) 0) Spare Neither)
+
+-- the bytes of frame n in a tuner's capture; neither: an empty part
+abbrev pub bytesFrom : Tuner → (main spare : List ℕ) → ℕ → List ℕ
+bytesFrom Main main spare n = partAt main n
+bytesFrom Spare main spare n = partAt spare n
+bytesFrom Neither main spare n = []
+
+-- what `frame_at` answers
+abbrev pub frameAt : (main spare : List ℕ) → ℕ → List ℕ
+frameAt main spare n = bytesFrom (sourceOf main spare n) main spare n
+
+-- where frame n stands, when its capture stands at this place, a block and a byte in it: at byte 26n of the capture
+abbrev pub placeAt : ℕ × ℕ → ℕ → ℕ × ℕ
+placeAt capture n = (capture .0, 26 * n + capture .1)
+
+-- where those bytes stand, when the captures stand at these places. An empty part is cut from the main one's start.
+abbrev pub placeFrom : Tuner → (main spare : ℕ × ℕ) → ℕ → ℕ × ℕ
+placeFrom Main main spare n = placeAt main n
+placeFrom Spare main spare n = placeAt spare n
+placeFrom Neither main spare n = main

@@ -1,0 +1,80 @@
+// Two tuners, each with a capture: frames end to end, frame n at byte 26n.
+ghost use mathlib.Core.Path.{_≡_};
+ghost use Prim.Native.Nat.{_+_, _*_, _≤_};
+ghost use lib.ListN.{length};
+ghost use Rattle.capture.specs.Capture.{partAt, placeAt, numberAt, numbersOf, sourceOf, bytesFrom, placeFrom};
+
+// The tuner that a frame is taken from.
+pub enum Tuner {
+    Neither,
+    Main,
+    Spare,
+}
+
+// Both tuners' refusal numbers, 0 for accepted.
+pub struct TunerNumbers {
+    pub main: u8,
+    pub spare: u8,
+}
+
+// Frame n's own bytes, where they stand in the capture.
+fn part(capture: &[u8], n: usize) -> &[u8]
+    requires { ⌜ 26 * n + 26 ≤ length (now capture) ⌝ }
+    ensures bytes { λ r. ⌜ now r ≡ partAt (now (capture .entry)) n ⌝ }
+    ensures place { λ r. ⌜ r .ptr ≡ placeAt (capture .entry .ptr) n ⌝ }
+{
+    let start = 26 * n;
+    let end = start + 26;
+    &capture[start..end]
+}
+
+// A tuner's number for frame n, however large: 1 where the 26 bytes do not all lie in the capture.
+pub fn number(capture: &[u8], n: usize) -> u8
+    ensures { λ r. ⌜ r ≡ numberAt (now (capture .entry)) n ⌝ }
+{
+    if n < capture.len() / 26 {
+        return frame_reader::judge(part(capture, n)).number;
+    }
+    1
+}
+
+// Both tuners' numbers, main first.
+pub fn numbers(main: &[u8], spare: &[u8], n: usize) -> TunerNumbers
+    ensures { λ r. ⌜ r ≡ numbersOf (now (main .entry)) (now (spare .entry)) n ⌝ }
+{
+    TunerNumbers {
+        main: number(main, n),
+        spare: number(spare, n),
+    }
+}
+
+// Main where the frame is accepted there, otherwise spare where it is accepted there.
+pub fn source(main: &[u8], spare: &[u8], n: usize) -> Tuner
+    ensures { λ r. ⌜ r ≡ sourceOf (now (main .entry)) (now (spare .entry)) n ⌝ }
+{
+    if number(main, n) == 0 {
+        return Tuner::Main;
+    }
+    if number(spare, n) == 0 {
+        return Tuner::Spare;
+    }
+    Tuner::Neither
+}
+
+// The frame's own bytes, where they stand in the capture that it is taken from; an empty part where neither has it.
+pub fn frame_at<'a>(main: &'a [u8], spare: &'a [u8], n: usize) -> &'a [u8]
+    ensures bytes { λ r. ⌜ now r ≡ bytesFrom (sourceOf (now (main .entry)) (now (spare .entry)) n) (now (main .entry)) (now (spare .entry)) n ⌝ }
+    ensures place { λ r. ⌜ r .ptr ≡ placeFrom (sourceOf (now (main .entry)) (now (spare .entry)) n) (main .entry .ptr) (spare .entry .ptr) n ⌝ }
+{
+    match source(main, spare, n) {
+        Tuner::Main => {
+            return part(main, n);
+        }
+        Tuner::Spare => {
+            return part(spare, n);
+        }
+        Tuner::Neither => {
+            return &main[0..0];
+        }
+    }
+}
