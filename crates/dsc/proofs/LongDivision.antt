@@ -36,7 +36,7 @@ add-all g v u j h e = e ∙ ap (λ s. add s v) (take-all j g h)
 -- ---- a step of the division
 
 -- what stands in w after a call that was lent the part from a on
-pub rest-lent : (f : List Bool → List Bool) (w v last : List Bool) (a : ℕ) → last ≡ f (take (length w - a) (drop a w))
+pub rest-lent : {A : Type 0} (f : List A → List A) (w v last : List A) (a : ℕ) → last ≡ f (take (length w - a) (drop a w))
     → v ≡ take a w ++ (last ++ drop (length w - a) (drop a w)) → v ≡ take a w ++ f (drop a w)
 rest-lent f w v last a e q =
     q
