@@ -1,0 +1,4 @@
+pub mod Segments
+pub mod Zeros
+pub mod HeaderRefusals
+pub mod Writing
