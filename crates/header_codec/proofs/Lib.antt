@@ -1,4 +1,5 @@
 pub mod Segments
 pub mod Zeros
 pub mod HeaderRefusals
+pub mod RecordRefusals
 pub mod Writing

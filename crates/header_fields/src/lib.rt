@@ -4,6 +4,8 @@ mod fields;
 mod tables;
 
 pub use arrays::has;
+pub use arrays::put_values;
+pub use arrays::take_run;
 pub use arrays::zeros26;
 pub use arrays::zeros119;
 pub use fields::extension_of;

@@ -31,7 +31,8 @@ returns c =
     let b = c .before .before .before in
     let h = now (b .args .h) in
     let t : take 184 (drop 4 h) ≡ drop 4 h = take-all 184 (drop 4 h) (simp length-drop (omega (arith, b .pre))) in
-    ap (λ n. not (eqb n 0)) (c .crc32 .ensures ∙ ap (λ s. crc32Of (bits s)) t)
+    let e : c .crc32 .result ≡ crc32Of (bits (take 184 (drop 4 h))) = c .crc32 .ensures in
+    ap (λ n. not (eqb n 0)) (e ∙ ap (λ s. crc32Of (bits s)) t)
 
 pub crc-wrong-spec : {M : Type 1} → statement M
 crc-wrong-spec =

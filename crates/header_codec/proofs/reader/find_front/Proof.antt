@@ -2,7 +2,7 @@
 use mathlib.Core.Path.{_∙_, ap}
 use native.Mathlib.Omega.{arith}
 use denote.Ref.{now}
-use lib.ListN.{length, take, length-take}
+use lib.ListN.{length, take, length-take, length-drop}
 use Rattle.bits.specs.Bits.{bits}
 use Rattle.header.specs.Layout.{frontLayout}
 use Rattle.header.specs.Fields.{frontOf}
@@ -45,7 +45,7 @@ read-fields-requires c κs =
     let k = c .before .before .before .before .before .before .front-kinds in
     let w = c .before .before .before .before .before .front-widths in
     let z = c .before .before .before .before .zeros119 in
-    read-room frontLayout (k .result) (w .result) (k .ensures) (w .ensures) 99 119 _ (z .result) front-row (simp length-take (omega (arith, c .before .before .before .before .before .before .before .before .pre))) (ap length (z .ensures))
+    read-room frontLayout (k .result) (w .result) (k .ensures) (w .ensures) 99 119 _ (z .result) front-row (simp (length-take, length-drop) (omega (arith, c .before .before .before .before .before .before .before .before .pre))) (ap length (z .ensures))
 
 front-of-requires : tie.Need-front-of-requires
 front-of-requires c κs = search needs

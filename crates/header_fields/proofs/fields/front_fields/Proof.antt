@@ -1,5 +1,5 @@
 -- `header_fields::front_fields` meets its contract. Assumes nothing.
-use mathlib.Core.Path.{_≡_, _∙_, ap, sym, refl}
+use mathlib.Core.Path.{_≡_, _∙_, ap, refl}
 use mathlib.Core.List.{append-assoc}
 use Prim.Native.Nat.{_*_}
 use native.Mathlib.Omega.{arith}
@@ -61,7 +61,7 @@ put-pairs-requires : tie.Need-put-pairs-requires
 put-pairs-requires c κs =
     let n = lengths (c .before .before .before .before .before .before .before .before .before .before .before) in
     let h : length (c .before .before .before .before .before .before .put-values .last .1 .0) ≡ 119 = search needs in
-    (n .networks ∙ sym (n .streams), omega (arith, n))
+    (omega (arith, n), omega (arith, n))
 
 slice-aggregate-put-values-3 : tie.Need-slice-aggregate-put-values-3
 slice-aggregate-put-values-3 c = search needs
