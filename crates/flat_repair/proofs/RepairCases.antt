@@ -1,4 +1,4 @@
--- What `gvz_repair` returns and leaves, by the cases that its code tells apart. Assumes nothing.
+-- What `repair` returns and leaves, by the cases that its code tells apart. Assumes nothing.
 use mathlib.Core.Path.{_≡_, refl, _∙_}
 use mathlib.Core.List.{List, _++_, append-nil}
 use mathlib.Core.Logic.{_≢_}
@@ -11,8 +11,8 @@ use Rattle.dsc.specs.Repair.{repairOf}
 use Rattle.dsc.specs.declared.Answer.{Answer}
 use Rattle.dsc.specs.declared.Outcome.the-variants as outcome
 use Rattle.dsc.proofs.Answers.{length-wordBytes, answered}
-use Rattle.capi.specs.Status.{statusOf}
-use Rattle.capi.specs.Repair.{repairStatus, repairWord}
+use Rattle.flat.specs.Status.{statusOf}
+use Rattle.flat_repair.specs.Repair.{repairStatus, repairWord}
 
 -- a copy into a buffer of the same length replaces all of it
 copied : (s d : List ℕ) → length s ≡ length d → take (length s) s ++ drop (length s) d ≡ s

@@ -1,11 +1,11 @@
--- What `gvz_repair` returns and what it leaves in its buffer, of the frame's bytes f and the buffer's bytes w. Assumes nothing.
+-- What `repair` returns and what it leaves in its buffer, of the frame's bytes f and the buffer's bytes w. Assumes nothing.
 use mathlib.Core.Bool.{cond}
 use mathlib.Core.List.{List}
 use Prim.Native.Nat.{ℕ}
 use lib.Dec.{eqb}
 use lib.ListN.{length}
 use Rattle.dsc.specs.Repair.{numberOf, placesOf, repairOf}
-use Rattle.capi.specs.Status.{statusOf}
+use Rattle.flat.specs.Status.{statusOf}
 
 -- a buffer of another length than 26 bytes is 1, else it is the repair's answer
 unfoldable pub repairStatus : (f w : List ℕ) → ℕ

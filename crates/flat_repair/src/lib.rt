@@ -1,17 +1,15 @@
-// The repair asked for alone.
-use crate::status::status;
+// The repair asked for alone, over plain numbers and slices, as a C program can call it.
 use dsc::Outcome;
 ghost use mathlib.Core.Path.{_≡_};
-ghost use Rattle.capi.specs.Repair.{repairStatus, repairWord};
+ghost use Rattle.flat_repair.specs.Repair.{repairStatus, repairWord};
 
-// Writes the repaired word, B17 to B203 at their places and 0 elsewhere, into the 26 bytes of `word`.
-#[no_mangle]
-pub extern "C" fn gvz_repair(frame: &[u8], word: &mut [u8]) -> u32
+// The repaired word, B17 to B203 at their places and 0 elsewhere, into 26 bytes.
+pub fn repair(frame: &[u8], word: &mut [u8]) -> u32
     ensures { λ r. ⌜ r ≡ repairStatus (now (frame .entry)) (now (word .entry)) ⌝ }
     ensures { λ _. ⌜ now (word .exit) ≡ repairWord (now (frame .entry)) (now (word .entry)) ⌝ }
 {
     if word.len() != 26 {
-        return status(1, 0);
+        return flat::status(1, 0);
     }
     let answer = dsc::repair(frame);
     let outcome = answer.outcome;
@@ -19,8 +17,8 @@ pub extern "C" fn gvz_repair(frame: &[u8], word: &mut [u8]) -> u32
         Outcome::Repaired(places) => {
             let repaired = answer.word;
             bytes::copy(&repaired, word);
-            status(0, places)
+            flat::status(0, places)
         }
-        Outcome::Refused(number) => status(number, 0),
+        Outcome::Refused(number) => flat::status(number, 0),
     }
 }

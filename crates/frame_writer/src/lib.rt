@@ -18,7 +18,7 @@ use frame::Record;
 // ---- the record's own refusals
 
 // The fields, in the order of the record.
-fn field_values(contents: Record) -> [u64; 18]
+pub fn field_values(contents: Record) -> [u64; 18]
     ensures { λ r. ⌜ r ≡ fields contents ⌝ }
 {
     [

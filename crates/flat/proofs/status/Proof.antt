@@ -1,7 +1,7 @@
--- `capi::status::status` meets its contract. Assumes nothing.
+-- `flat::status` meets its contract. Assumes nothing.
 use native.Mathlib.Omega.{arith}
-use Rattle.capi.proofs.status.status.Statement.{statement}
-use Rattle.capi.proofs.status.status.Tie as tie
+use Rattle.flat.proofs.status.Statement.{statement}
+use Rattle.flat.proofs.status.Tie as tie
 
 mul-result : tie.Need-mul-result
 mul-result c = omega arith

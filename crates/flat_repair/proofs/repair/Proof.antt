@@ -1,10 +1,10 @@
--- `capi::repair::gvz_repair` meets its contract. Assumes nothing.
+-- `flat_repair::repair` meets its contract. Assumes nothing.
 use mathlib.Core.Path.{_∙_}
 use native.Mathlib.Omega.{arith}
 use borrow.Author.Needs.{needs}
-use Rattle.capi.proofs.RepairCases.{word-length, wrong-buffer, repaired, refused}
-use Rattle.capi.proofs.repair.gvz_repair.Statement.{statement}
-use Rattle.capi.proofs.repair.gvz_repair.Tie as tie
+use Rattle.flat_repair.proofs.RepairCases.{word-length, wrong-buffer, repaired, refused}
+use Rattle.flat_repair.proofs.repair.Statement.{statement}
+use Rattle.flat_repair.proofs.repair.Tie as tie
 
 status-requires : tie.Need-status-requires
 status-requires c κs = search needs
@@ -61,8 +61,8 @@ returns-3 c =
     let r = refused (s .frame .now) (a .repair .result) (a .repair .ensures .1) (s .word .now) (a .before .if1 .left) (n .0 .0) (n .1) in
     (c .status3 .ensures ∙ r .0, r .1)
 
-pub gvz-repair-spec : {M : Type 1} → statement M
-gvz-repair-spec =
+pub repair-spec : {M : Type 1} → statement M
+repair-spec =
     tie.close
     (tie.spec
     status-requires
