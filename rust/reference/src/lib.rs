@@ -1,6 +1,12 @@
 //! A plain version of what the box computes, written from document 01 alone, to compare the proved one with.
+pub mod capture;
 pub mod code;
 pub mod crc;
+pub mod follower;
+pub mod frame;
+pub mod header;
+pub mod listing;
+pub mod place;
 
 mod repair;
 
@@ -22,4 +28,19 @@ pub fn set_bit(bytes: &mut [u8], k: usize) {
 /// Turns Bk over.
 pub fn flip_bit(bytes: &mut [u8], k: usize) {
     bytes[k / 8] ^= 0x80 >> (k % 8);
+}
+
+/// The number that stands in these bits, most significant first.
+pub fn get(bytes: &[u8], places: std::ops::RangeInclusive<usize>) -> u64 {
+    places.fold(0, |value, k| value << 1 | u64::from(bit(bytes, k)))
+}
+
+/// Puts a number into these bits, most significant first.
+pub fn put(bytes: &mut [u8], places: std::ops::RangeInclusive<usize>, mut value: u64) {
+    for k in places.rev() {
+        if bit(bytes, k) != (value & 1 == 1) {
+            flip_bit(bytes, k);
+        }
+        value >>= 1;
+    }
 }

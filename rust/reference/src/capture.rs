@@ -1,0 +1,30 @@
+//! The captures of two tuners (document 01, "Two tuners").
+use crate::{frame, FRAME_BYTES};
+
+/// "frames end to end, frame n at byte 26n": its bytes, where all 26 lie in the capture.
+fn bytes_at(capture: &[u8], n: u64) -> Option<&[u8]> {
+    let n = usize::try_from(n).ok()?;
+    capture.chunks_exact(FRAME_BYTES).nth(n)
+}
+
+/// A tuner's number for frame n, 0 for accepted.
+pub fn number(capture: &[u8], n: u64) -> u8 {
+    // "A frame number whose 26 bytes do not all lie in a capture, however large, is 1 there."
+    bytes_at(capture, n).map_or(1, |frame| frame::judge(frame).err().unwrap_or(0))
+}
+
+/// "Asked for frame n, the box answers with the frame's own bytes in the capture it was taken from: the main one if accepted there,
+/// otherwise the spare one if accepted there. Neither: an empty part."
+pub fn frame_at<'a>(main: &'a [u8], spare: &'a [u8], n: u64) -> &'a [u8] {
+    for capture in [main, spare] {
+        if number(capture, n) == 0 {
+            return bytes_at(capture, n).unwrap_or(&[]);
+        }
+    }
+    &[]
+}
+
+/// "A separate question gives both tuners' numbers (0 for accepted), main first."
+pub fn numbers(main: &[u8], spare: &[u8], n: u64) -> (u8, u8) {
+    (number(main, n), number(spare, n))
+}

@@ -1,0 +1,251 @@
+//! The warning frame (document 01, "The frame, bit by bit" and "When the box says no").
+use crate::code::{encode, frame_of};
+use crate::crc::crc10;
+use crate::{bit, get, put, repair, FRAME_BYTES};
+use std::ops::RangeInclusive;
+
+/// "A record holds only B0, the pattern, the identification and the fields that these, page and kind leave free": 18 numbers, 0 where a
+/// field is not free. The constants below are their indices.
+pub type Record = [u64; 18];
+
+pub const REFERENCE: usize = 0;
+pub const PATTERN: usize = 1;
+pub const IDENTIFICATION: usize = 2;
+pub const UPDATE: usize = 3;
+pub const TIME: usize = 4;
+pub const PAGE: usize = 5;
+/// B56 to B111, B56 highest; 0 means warned.
+pub const AREAS: usize = 6;
+pub const TOTAL: usize = 7;
+pub const ITEM: usize = 8;
+pub const NUMBER: usize = 9;
+pub const KIND: usize = 10;
+pub const SOUTH: usize = 11;
+pub const LATITUDE: usize = 12;
+pub const WEST: usize = 13;
+pub const LONGITUDE: usize = 14;
+pub const DEPTH: usize = 15;
+pub const OCCURRED: usize = 16;
+pub const BROADCASTER: usize = 17;
+
+/// "B1..B16: 0011010111101110 (pattern 0) or its complement (pattern 1)."
+const PATTERNS: [u64; 2] = [0b0011_0101_1110_1110, 0b1100_1010_0001_0001];
+
+/// The places of the record's fields; the pattern, one bit of the record, stands in 16.
+const PLACES: [RangeInclusive<usize>; 18] = [
+    0..=0,
+    1..=16,
+    21..=23,
+    19..=20,
+    24..=54,
+    55..=55,
+    56..=111,
+    56..=56,
+    57..=57,
+    58..=66,
+    67..=67,
+    68..=68,
+    69..=78,
+    79..=79,
+    80..=90,
+    91..=100,
+    101..=110,
+    56..=66,
+];
+
+/// The width of a field in the record.
+fn width(field: usize) -> usize {
+    match field {
+        PATTERN => 1,
+        _ => PLACES[field].clone().count(),
+    }
+}
+
+/// What stands in B24 to B111.
+#[derive(Clone, Copy, PartialEq, Eq)]
+enum Body {
+    Areas,
+    Place,
+    Cancellation,
+    NoInformation,
+}
+
+impl Body {
+    /// The body of an identification 0 to 3 or 7: page 1 is a place or, with kind 1, a cancellation.
+    fn of(identification: u64, page: u64, kind: u64) -> Body {
+        match (identification, page, kind) {
+            (7, _, _) => Body::NoInformation,
+            (_, 0, _) => Body::Areas,
+            (_, _, 0) => Body::Place,
+            _ => Body::Cancellation,
+        }
+    }
+
+    /// The fields that it leaves free.
+    fn free(self) -> Vec<usize> {
+        let mut fields = vec![REFERENCE, PATTERN, IDENTIFICATION];
+        match self {
+            Body::Areas => fields.extend([UPDATE, TIME, PAGE, AREAS]),
+            Body::Place => {
+                fields.extend([UPDATE, TIME, PAGE, TOTAL, ITEM, NUMBER, KIND]);
+                fields.extend([SOUTH, LATITUDE, WEST, LONGITUDE, DEPTH, OCCURRED]);
+            }
+            Body::Cancellation => fields.extend([UPDATE, TIME, PAGE, TOTAL, ITEM, NUMBER, KIND]),
+            Body::NoInformation => fields.push(BROADCASTER),
+        }
+        fields
+    }
+
+    /// The bits of the details that it fixes at 1.
+    fn fixed(self) -> Vec<usize> {
+        match self {
+            Body::Areas => vec![],
+            Body::Place => vec![111],
+            Body::Cancellation => (68..=111).collect(),
+            Body::NoInformation => (24..=55).chain(67..=111).collect(),
+        }
+    }
+}
+
+/// "CRC: the 91 bits B21..B111".
+fn crc_of(frame: &[u8]) -> u64 {
+    let bits: Vec<bool> = (21..=111).map(|k| bit(frame, k)).collect();
+    u64::from(crc10(&bits))
+}
+
+fn body_of(frame: &[u8]) -> Body {
+    Body::of(
+        get(frame, 21..=23),
+        get(frame, 55..=55),
+        get(frame, 67..=67),
+    )
+}
+
+/// "House limits, for page 1 of kind 0 only: latitude at most 900, longitude at most 1800."
+fn over_limit(body: Body, latitude: u64, longitude: u64) -> bool {
+    body == Body::Place && (latitude > 900 || longitude > 1800)
+}
+
+/// Tests 5 to 9, on the repaired frame.
+fn repaired_refusal(frame: &[u8]) -> u8 {
+    let identification = get(frame, 21..=23);
+    let (start_end, update) = (get(frame, 17..=18), get(frame, 19..=20));
+    let body = body_of(frame);
+    if crc_of(frame) != get(frame, 112..=121) {
+        5
+    } else if (4..=6).contains(&identification) {
+        6
+    } else if (identification < 4 && start_end != 0)
+        || (identification == 7 && (start_end != 3 || update != 3))
+    {
+        7
+    } else if body.fixed().iter().any(|&k| !bit(frame, k)) {
+        8
+    } else if over_limit(body, get(frame, 69..=78), get(frame, 80..=90)) {
+        9
+    } else {
+        0
+    }
+}
+
+/// An accepted frame with its damage repaired, and the number of repaired places; or the refusal's number, "tested 1 to 9 in that order".
+fn accept(frame: &[u8]) -> Result<([u8; FRAME_BYTES], u8), u8> {
+    if frame.len() != FRAME_BYTES {
+        return Err(1);
+    }
+    if get(frame, 204..=207) != 0 {
+        return Err(2);
+    }
+    if !PATTERNS.contains(&get(frame, 1..=16)) {
+        return Err(3);
+    }
+    let repaired = repair(frame)?;
+    let mut whole = repaired.word;
+    put(&mut whole, 0..=16, get(frame, 0..=16));
+    match repaired_refusal(&whole) {
+        0 => Ok((whole, repaired.places)),
+        number => Err(number),
+    }
+}
+
+/// The number of repaired places, or the refusal's number.
+pub fn judge(frame: &[u8]) -> Result<u8, u8> {
+    accept(frame).map(|(_, places)| places)
+}
+
+/// The frame with its damage repaired, or the refusal's number.
+pub fn clean(frame: &[u8]) -> Result<[u8; FRAME_BYTES], u8> {
+    accept(frame).map(|(whole, _)| whole)
+}
+
+/// The record and the number of repaired places, or the refusal's number.
+pub fn read(frame: &[u8]) -> Result<(Record, u8), u8> {
+    let (whole, places) = accept(frame)?;
+    let mut record = [0; 18];
+    for field in body_of(&whole).free() {
+        record[field] = get(&whole, PLACES[field].clone());
+    }
+    record[PATTERN] = u64::from(record[PATTERN] == PATTERNS[1]);
+    Ok((record, places))
+}
+
+/// "The frame writer tests its buffer (1), then the identification (6), then 10, then 9": the last three, which do not look at a buffer.
+pub fn record_refusal(record: &Record) -> u8 {
+    let identification = record[IDENTIFICATION];
+    if identification > 7 || (4..=6).contains(&identification) {
+        return 6;
+    }
+    let body = Body::of(identification, record[PAGE], record[KIND]);
+    let free = body.free();
+    let misplaced = |field| {
+        record[field] >> width(field) != 0 || (record[field] != 0 && !free.contains(&field))
+    };
+    if (0..18).any(misplaced) {
+        return 10;
+    }
+    if over_limit(body, record[LATITUDE], record[LONGITUDE]) {
+        return 9;
+    }
+    0
+}
+
+/// Writes a legal record into a buffer of 26 bytes; a refusal leaves it.
+pub fn write(record: &Record, buffer: &mut [u8]) -> u8 {
+    if buffer.len() != FRAME_BYTES {
+        return 1;
+    }
+    let number = record_refusal(record);
+    if number == 0 {
+        buffer.copy_from_slice(&written(record));
+    }
+    number
+}
+
+/// The frame of a legal record: "start/end, the update of identification 7, fixed bits, filler, CRC and parity are derived".
+fn written(record: &Record) -> [u8; FRAME_BYTES] {
+    let body = Body::of(record[IDENTIFICATION], record[PAGE], record[KIND]);
+    let mut frame = [0; FRAME_BYTES];
+    for field in body.free() {
+        put(&mut frame, PLACES[field].clone(), record[field]);
+    }
+    for k in body.fixed() {
+        put(&mut frame, k..=k, 1);
+    }
+    if body == Body::NoInformation {
+        put(&mut frame, 17..=20, 0b1111);
+    }
+    let crc = crc_of(&frame);
+    put(&mut frame, 112..=121, crc);
+    let mut whole = frame_of(&encode(&std::array::from_fn(|i| bit(&frame, 17 + i))));
+    put(&mut whole, 0..=0, record[REFERENCE]);
+    put(&mut whole, 1..=16, PATTERNS[record[PATTERN] as usize]);
+    whole
+}
+
+/// "Page 0: B(56+k) belongs to area k, 0 to 55 ... 0 means warned."
+pub fn warned(record: &Record, area: usize) -> bool {
+    record[IDENTIFICATION] <= 3
+        && record[PAGE] == 0
+        && area < 56
+        && record[AREAS] >> (55 - area) & 1 == 0
+}

@@ -1,0 +1,64 @@
+//! Two captures: which frame is taken, from where, and both numbers.
+mod common;
+use common::{frame, written, ALL_AREAS};
+use reference::capture::{frame_at, numbers};
+use reference::flip_bit;
+
+fn good() -> Vec<u8> {
+    written(&[0; 18]).to_vec()
+}
+
+fn damaged(hits: usize) -> Vec<u8> {
+    let mut bytes = good();
+    for i in 0..hits {
+        flip_bit(&mut bytes, 20 + 19 * i);
+    }
+    bytes
+}
+
+#[test]
+fn the_frames_own_bytes() {
+    assert_eq!(good(), frame(ALL_AREAS));
+    let (main, spare) = (damaged(8), good());
+    let taken = frame_at(&main, &spare, 0);
+    assert_eq!(taken.as_ptr_range(), main.as_ptr_range());
+    let (main, spare) = (damaged(9), damaged(3));
+    let taken = frame_at(&main, &spare, 0);
+    assert_eq!(taken.as_ptr_range(), spare.as_ptr_range());
+    assert_eq!(numbers(&main, &spare, 0), (4, 0));
+}
+
+#[test]
+fn out_of_range() {
+    let two = [good(), good()].concat();
+    for (length, n, number) in [
+        (0, 0, 1),
+        (25, 0, 1),
+        (26, 0, 0),
+        (26, 1, 1),
+        (51, 1, 1),
+        (52, 1, 0),
+        (52, 2, 1),
+        (52, 1 << 63, 1),
+        (52, u64::MAX, 1),
+    ] {
+        let capture = &two[..length];
+        assert_eq!(
+            numbers(capture, capture, n),
+            (number, number),
+            "{length} {n}"
+        );
+        let taken = frame_at(capture, capture, n);
+        assert_eq!(taken.len(), if number == 0 { 26 } else { 0 });
+    }
+}
+
+#[test]
+fn main_out_of_range_or_both_refused() {
+    let main = good();
+    let spare = [vec![0; 26], damaged(1)].concat();
+    assert_eq!(frame_at(&main, &spare, 1), &spare[26..]);
+    assert_eq!(numbers(&main, &spare, 1), (1, 0));
+    assert_eq!(frame_at(&spare, &[], 0), &[] as &[u8]);
+    assert_eq!(numbers(&spare, &[], 0), (3, 1));
+}

@@ -1,0 +1,89 @@
+//! Following the update number: every pair of updates, every change of kind, refusals, and numbers that no frame carries.
+mod common;
+use common::{record, written};
+use reference::follower::{follow, reset, Event, Kind, State};
+use reference::frame::{IDENTIFICATION, UPDATE};
+
+fn warning(identification: u64, update: u64) -> [u8; 26] {
+    written(&record(&[
+        (IDENTIFICATION, identification),
+        (UPDATE, update),
+    ]))
+}
+
+fn nothing() -> [u8; 26] {
+    written(&record(&[(IDENTIFICATION, 7)]))
+}
+
+fn kind_of(identification: u64) -> Kind {
+    if identification < 2 {
+        Kind::Real
+    } else {
+        Kind::Test
+    }
+}
+
+#[test]
+fn every_pair_of_updates() {
+    // Rows: the update held; columns: the update of the frame.
+    let events = ["=+xx", "x=+x", "xx=+", "+xx="];
+    for held in 0..4u64 {
+        for update in 0..4u64 {
+            for identification in 0..4 {
+                let kind = kind_of(identification);
+                let other = if kind == Kind::Real {
+                    Kind::Test
+                } else {
+                    Kind::Real
+                };
+                let event = match events[held as usize].as_bytes()[update as usize] {
+                    b'=' => Event::Same,
+                    b'+' => Event::Changed,
+                    _ => Event::Skipped,
+                };
+                let frame = warning(identification, update);
+                let new = State::Active(kind, update);
+                assert_eq!(follow(State::Active(kind, held), &frame), (new, event));
+                let begins = (new, Event::Begins);
+                assert_eq!(follow(State::Active(other, held), &frame), begins);
+                assert_eq!(follow(State::Quiet, &frame), begins);
+            }
+        }
+    }
+}
+
+#[test]
+fn no_information_ends() {
+    let quiet = |event| (State::Quiet, event);
+    assert_eq!(follow(State::Quiet, &nothing()), quiet(Event::Quiet));
+    for kind in [Kind::Real, Kind::Test] {
+        let old = State::Active(kind, 2);
+        assert_eq!(follow(old, &nothing()), quiet(Event::Ended));
+    }
+    assert_eq!(reset(), State::Quiet);
+}
+
+#[test]
+fn a_refused_frame_keeps_the_state() {
+    for old in [
+        State::Quiet,
+        State::Active(Kind::Real, 1),
+        State::Active(Kind::Test, u64::MAX),
+    ] {
+        for length in [0, 5, 25, 27] {
+            assert_eq!(follow(old, &vec![0; length]), (old, Event::Refused(1)));
+        }
+        assert_eq!(follow(old, &[0; 26]), (old, Event::Refused(3)));
+    }
+}
+
+#[test]
+fn a_number_that_no_frame_carries() {
+    for held in [255, u64::MAX] {
+        let event = |update| follow(State::Active(Kind::Real, held), &warning(0, update)).1;
+        assert_eq!(event(0), Event::Changed);
+        for update in 1..4 {
+            assert_eq!(event(update), Event::Skipped);
+        }
+    }
+}
