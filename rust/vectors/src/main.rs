@@ -1,0 +1,11 @@
+//! Prints what a program of vectors has to write, as the plain version has it: `cargo run -p vectors -- header`.
+fn main() {
+    let name = std::env::args().nth(1).unwrap_or_default();
+    match vectors::expected(&name) {
+        Some(text) => print!("{text}"),
+        None => {
+            eprintln!("vectors: one of: {}", vectors::NAMES.join(", "));
+            std::process::exit(2);
+        }
+    }
+}
