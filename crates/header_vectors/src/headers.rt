@@ -1,16 +1,20 @@
 // Headers, written and altered.
 use crate::values;
 
+fn zeros() -> [u8; 188] {
+    [0; 188]
+}
+
 // The header of a legal record.
 pub fn written(v: &[u64; 145]) -> [u8; 188] {
-    let mut buffer = [0u8; 188];
+    let mut buffer = zeros();
     header_codec::write(values::header_of(v), &mut buffer);
     buffer
 }
 
 // The writer's answer.
 pub fn written_number(v: &[u64; 145]) -> u64 {
-    let mut buffer = [0u8; 188];
+    let mut buffer = zeros();
     header_codec::write(values::header_of(v), &mut buffer) as u64
 }
 
@@ -27,10 +31,14 @@ fn seal_if(h: &mut [u8; 188], again: bool) {
     }
 }
 
+pub fn model() -> [u8; 188] {
+    let v = values::model();
+    written(&v)
+}
+
 // The model header with three bits turned over, those that it has, and its CRC made again if asked.
 pub fn flipped(a: usize, b: usize, c: usize, again: bool) -> [u8; 188] {
-    let v = values::model();
-    let mut h = written(&v);
+    let mut h = model();
     flip(&mut h, a);
     flip(&mut h, b);
     flip(&mut h, c);
@@ -40,8 +48,7 @@ pub fn flipped(a: usize, b: usize, c: usize, again: bool) -> [u8; 188] {
 
 // The model header with another form.
 pub fn with_form(form: u64) -> [u8; 188] {
-    let v = values::model();
-    let mut h = written(&v);
+    let mut h = model();
     bits::put(&mut h, 52, 4, form);
     header_codec::seal(&mut h);
     h
@@ -91,13 +98,22 @@ pub fn gives(h: &[u8; 188], v: &[u64; 145]) -> bool {
     reading.number == 0 && same_values(&found, v)
 }
 
+fn same_bytes(a: &[u8; 188], b: &[u8; 188]) -> bool {
+    for i in 0..188 {
+        if a[i] != b[i] {
+            return false;
+        }
+    }
+    true
+}
+
 // The header is read, and comes back when written.
 pub fn comes_back(h: &[u8; 188]) -> bool {
     let reading = header_codec::read(h);
-    let mut buffer = [0u8; 188];
-    let number = header_codec::write(reading.header, &mut buffer);
-    reading.number == 0
-        && number == 0
-        && first_difference(h, &buffer) == 1472
-        && bits::get(h, 1472, 32) == bits::get(&buffer, 1472, 32)
+    if reading.number != 0 {
+        return false;
+    }
+    let mut buffer = zeros();
+    header_codec::write(reading.header, &mut buffer);
+    same_bytes(h, &buffer)
 }

@@ -4,29 +4,13 @@ use crate::output;
 use crate::read;
 use crate::values;
 
-fn digit(s: &[u8], i: usize) -> u8 {
-    if i < s.len() {
-        let c = s[i];
-        if 97 <= c {
-            return c - 87;
-        }
-        if 48 <= c {
-            return c - 48;
-        }
-    }
-    0
-}
-
-fn put_digits(s: &[u8], f: &mut [u8; 26]) {
-    for i in 0..26 {
-        f[i] = (digit(s, 2 * i) << 4) | digit(s, 2 * i + 1);
-    }
-}
-
-// A frame from its digits.
-fn frame(s: &[u8]) -> [u8; 26] {
+// A frame from its 26 bytes, in words of eight and the last two.
+fn frame(a: u64, b: u64, c: u64, d: u64) -> [u8; 26] {
     let mut f = [0u8; 26];
-    put_digits(s, &mut f);
+    bits::put(&mut f, 0, 64, a);
+    bits::put(&mut f, 64, 64, b);
+    bits::put(&mut f, 128, 64, c);
+    bits::put(&mut f, 192, 16, d);
     f
 }
 
@@ -47,7 +31,7 @@ fn after(number: u8, before: u64, header: &[u8]) {
 fn lay(header: &mut [u8], n: usize, frame: &[u8]) {
     let before = output::byte_hash(header);
     if n <= header.len() {
-        let number = laying::lay_in(&mut header[..n], frame);
+        let number = laying::lay_in(&mut header[0..n], frame);
         after(number, before, header);
     }
 }
@@ -56,87 +40,126 @@ fn lay(header: &mut [u8], n: usize, frame: &[u8]) {
 fn take(header: &mut [u8], n: usize) {
     let before = output::byte_hash(header);
     if n <= header.len() {
-        let number = laying::take_out(&mut header[..n]);
+        let number = laying::take_out(&mut header[0..n]);
         after(number, before, header);
     }
 }
 
 // A frame into the model header.
-fn into_model(name: &[u8], digits: &[u8]) {
+fn into_model(name: &[u8], f: [u8; 26]) {
     output::text(b"lay in ");
     output::text(name);
-    let f = frame(digits);
-    let mut header = headers::flipped(1504, 1504, 1504, false);
+    let mut header = headers::model();
     lay(&mut header, 188, &f);
 }
 
 fn accepted_frames() {
-    into_model(
-        b"all areas",
-        b"1af7000000000000000000000000000000000000000000000000",
-    );
-    into_model(
-        b"one hit",
-        b"1af7000000000000000000000000000000000000000000000010",
-    );
+    into_model(b"all areas", frame(0x1af7000000000000, 0, 0, 0));
+    into_model(b"one hit", frame(0x1af7000000000000, 0, 0, 0x0010));
     into_model(
         b"eight hits",
-        b"1af7000000000000000000000000004308c01100000000000000",
+        frame(
+            0x1af7000000000000,
+            0x0000000000000043,
+            0x08c0110000000000,
+            0,
+        ),
     );
-    into_model(
-        b"B0",
-        b"9af7000000000000000000000000000000000000000000000000",
-    );
+    into_model(b"B0", frame(0x9af7000000000000, 0, 0, 0));
     into_model(
         b"pattern 1",
-        b"650893932c05a4fffeffffffffff8c1ebd699253f76e2e73da90",
+        frame(
+            0x650893932c05a4ff,
+            0xfeffffffffff8c1e,
+            0xbd699253f76e2e73,
+            0xda90,
+        ),
     );
     into_model(
         b"place",
-        b"9af70a0000000ba58ac9aea147094cf61e307cb8e3e2d6661040",
+        frame(
+            0x9af70a0000000ba5,
+            0x8ac9aea147094cf6,
+            0x1e307cb8e3e2d666,
+            0x1040,
+        ),
     );
     into_model(
         b"cancellation",
-        b"1af70000000001001fffffffffffe43d0ff2f235a3cbf9db1c70",
+        frame(
+            0x1af7000000000100,
+            0x1fffffffffffe43d,
+            0x0ff2f235a3cbf9db,
+            0x1c70,
+        ),
     );
     into_model(
         b"no information",
-        b"1af77fffffffffffffffffffffff698fbee80b006e0824cd3d10",
+        frame(
+            0x1af77fffffffffff,
+            0xffffffffffff698f,
+            0xbee80b006e0824cd,
+            0x3d10,
+        ),
     );
 }
 
 fn refused_frames() {
-    into_model(
-        b"filler",
-        b"1af7000000000000000000000000000000000000000000000001",
-    );
-    into_model(
-        b"no pattern",
-        b"0000000000000000000000000000000000000000000000000000",
-    );
+    into_model(b"filler", frame(0x1af7000000000000, 0, 0, 0x0001));
+    into_model(b"no pattern", frame(0, 0, 0, 0));
     into_model(
         b"nine hits",
-        b"1af7000000000000000000000000004308c01110000000000000",
+        frame(
+            0x1af7000000000000,
+            0x0000000000000043,
+            0x08c0111000000000,
+            0,
+        ),
     );
     into_model(
         b"CRC",
-        b"1af7000000000000000000000000004308c01110114014404110",
+        frame(
+            0x1af7000000000000,
+            0x0000000000000043,
+            0x08c0111011401440,
+            0x4110,
+        ),
     );
     into_model(
         b"identification 5",
-        b"1af70500000000000000000000004f521e5692041479a68c6810",
+        frame(
+            0x1af7050000000000,
+            0x0000000000004f52,
+            0x1e5692041479a68c,
+            0x6810,
+        ),
     );
     into_model(
         b"update 2 of 7",
-        b"1af777ffffffff00bfffffffffff3e583d134b51523b875a54e0",
+        frame(
+            0x1af777ffffffff00,
+            0xbfffffffffff3e58,
+            0x3d134b51523b875a,
+            0x54e0,
+        ),
     );
     into_model(
         b"B111",
-        b"1af7000000000100070a0000000071fee4dcd9339873b730f150",
+        frame(
+            0x1af7000000000100,
+            0x070a0000000071fe,
+            0xe4dcd9339873b730,
+            0xf150,
+        ),
     );
     into_model(
         b"latitude 901",
-        b"1af70a0000000ba58f0baea14709a335ac25ca42ddbf9efe2c30",
+        frame(
+            0x1af70a0000000ba5,
+            0x8f0baea14709a335,
+            0xac25ca42ddbf9efe,
+            0x2c30,
+        ),
     );
 }
 
@@ -151,18 +174,18 @@ fn longer() -> [u8; 27] {
 // The first n bytes of it into the model header.
 fn frame_length(n: usize) {
     output::told(b"lay in ", n as u64);
-    let mut header = headers::flipped(1504, 1504, 1504, false);
+    let mut header = headers::model();
     let f = longer();
     if n <= 27 {
-        lay(&mut header, 188, &f[..n]);
+        lay(&mut header, 188, &f[0..n]);
     }
 }
 
 // A good frame and a refused one into the first n bytes of the model header with bits turned over, and taking out.
 fn refused_header(name: u64, a: usize, b: usize, again: bool, n: usize) {
     let mut header = headers::flipped(a, b, 1504, again);
-    let good = frame(b"1af7");
-    let bad = frame(b"");
+    let good = frame(0x1af7000000000000, 0, 0, 0);
+    let bad = [0u8; 26];
     output::told(b"lay in at ", name);
     lay(&mut header, n, &good);
     output::told(b"lay in at ", name);
@@ -172,50 +195,65 @@ fn refused_header(name: u64, a: usize, b: usize, again: bool, n: usize) {
     take(&mut header, n);
 }
 
-fn in_turn(name: &[u8], v: &[u64; 145]) {
-    let mut header = headers::written(v);
-    turn(
-        name,
-        b", place",
-        &mut header,
-        b"9af70a0000000ba58ac9aea147094cf61e307cb8e3e2d6661040",
+fn turn(name: &[u8], which: &[u8], header: &mut [u8], f: [u8; 26]) {
+    output::text(b"lay in ");
+    output::text(name);
+    output::text(which);
+    lay(header, 188, &f);
+}
+
+// Four frames into one header, the third refused.
+fn in_turn(name: &[u8], header: &mut [u8]) {
+    let place = frame(
+        0x9af70a0000000ba5,
+        0x8ac9aea147094cf6,
+        0x1e307cb8e3e2d666,
+        0x1040,
     );
-    turn(
-        name,
-        b", place again",
-        &mut header,
-        b"9af70a0000000ba58ac9aea147094cf61e307cb8e3e2d6661040",
-    );
+    turn(name, b", place", header, place);
+    turn(name, b", place again", header, place);
     turn(
         name,
         b", nine hits",
-        &mut header,
-        b"1af7000000000000000000000000004308c01110000000000000",
+        header,
+        frame(
+            0x1af7000000000000,
+            0x0000000000000043,
+            0x08c0111000000000,
+            0,
+        ),
     );
     turn(
         name,
         b", pattern 1",
-        &mut header,
-        b"650893932c05a4fffeffffffffff8c1ebd699253f76e2e73da90",
+        header,
+        frame(
+            0x650893932c05a4ff,
+            0xfeffffffffff8c1e,
+            0xbd699253f76e2e73,
+            0xda90,
+        ),
     );
+}
+
+// Taken out after that, twice.
+fn out_again(name: &[u8], header: &mut [u8]) {
     output::text(b"read ");
     output::text(name);
-    read::answer(&header);
+    read::answer(header);
     output::text(b"take out ");
     output::text(name);
-    take(&mut header, 188);
+    take(header, 188);
     output::text(b"take out ");
     output::text(name);
     output::text(b" again");
-    take(&mut header, 188);
+    take(header, 188);
 }
 
-fn turn(name: &[u8], which: &[u8], header: &mut [u8], digits: &[u8]) {
-    output::text(b"lay in ");
-    output::text(name);
-    output::text(which);
-    let f = frame(digits);
-    lay(header, 188, &f);
+fn there_and_back(name: &[u8], v: &[u64; 145]) {
+    let mut header = headers::written(v);
+    in_turn(name, &mut header);
+    out_again(name, &mut header);
 }
 
 pub fn lines() {
@@ -231,7 +269,7 @@ pub fn lines() {
     refused_header(14, 54, 55, true, 188);
     refused_header(15, 71, 1504, true, 188);
     let model = values::model();
-    in_turn(b"model", &model);
+    there_and_back(b"model", &model);
     let filled = values::filled();
-    in_turn(b"filled", &filled);
+    there_and_back(b"filled", &filled);
 }

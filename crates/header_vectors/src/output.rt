@@ -29,10 +29,14 @@ fn mixed(hash: u64, x: u64) -> u64 {
     std::num::wrapping_add_u64(std::num::wrapping_add_u64(a, d), y)
 }
 
+fn mixed_byte(hash: u64, b: u8) -> u64 {
+    mixed(hash, b as u64)
+}
+
 pub fn byte_hash(s: &[u8]) -> u64 {
     let mut hash: u64 = 0xcbf29ce484222325;
     for i in 0..s.len() {
-        hash = mixed(hash, s[i] as u64);
+        hash = mixed_byte(hash, s[i]);
     }
     hash
 }
@@ -45,8 +49,12 @@ pub fn value_hash(s: &[u64]) -> u64 {
     hash
 }
 
+fn byte(b: u8) {
+    io::print_hex(STDOUT_FILENO, b as u64, 2);
+}
+
 pub fn bytes(s: &[u8]) {
     for i in 0..s.len() {
-        hex(b"", s[i] as u64, 2);
+        byte(s[i]);
     }
 }

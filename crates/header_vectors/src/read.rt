@@ -13,11 +13,15 @@ pub fn answer(h: &[u8]) {
     output::text(b"\n");
 }
 
+fn zeros() -> [u8; 189] {
+    [0; 189]
+}
+
 // The model header and a byte more.
 fn longer() -> [u8; 189] {
     let v = values::model();
-    let mut h = [0u8; 189];
-    header_codec::write(values::header_of(&v), &mut h[..188]);
+    let mut h = zeros();
+    header_codec::write(values::header_of(&v), &mut h[0..188]);
     h
 }
 
@@ -26,7 +30,7 @@ pub fn length(n: usize) {
     output::told(b"read ", n as u64);
     let h = longer();
     if n <= 189 {
-        answer(&h[..n]);
+        answer(&h[0..n]);
     }
 }
 

@@ -71,12 +71,19 @@ pub fn header_of(v: &[u64; 145]) -> Header {
     Header { front, extension }
 }
 
-fn put_front(v: &mut [u64; 145], front: Front) {
+fn put_numbers(v: &mut [u64; 145], front: Front) {
     v[0] = front.packet;
     v[1] = front.sync;
     v[2] = front.change;
     v[3] = front.method;
     v[4] = front.form;
+    v[65] = front.carried;
+    v[66] = front.emergency;
+    let slots = front.slots;
+    put_run(v, 67, 1, &slots);
+}
+
+fn put_lists(v: &mut [u64; 145], front: Front) {
     let valid = front.valid;
     put_run(v, 5, 1, &valid);
     let streams = front.streams;
@@ -85,15 +92,12 @@ fn put_front(v: &mut [u64; 145], front: Front) {
     put_run(v, 21, 2, &networks);
     let states = front.states;
     put_run(v, 50, 1, &states);
-    v[65] = front.carried;
-    v[66] = front.emergency;
-    let slots = front.slots;
-    put_run(v, 67, 1, &slots);
 }
 
 pub fn values_of(header: Header) -> [u64; 145] {
-    let mut v = [0u64; 145];
-    put_front(&mut v, header.front);
+    let mut v = zeros();
+    put_numbers(&mut v, header.front);
+    put_lists(&mut v, header.front);
     let extension = header.extension;
     let ac = extension.ac;
     put_run(&mut v, 119, 1, &ac);
@@ -148,9 +152,13 @@ pub fn largest(j: usize) -> u64 {
     all_bits(j)
 }
 
+fn zeros() -> [u64; 145] {
+    [0; 145]
+}
+
 // All fields at their lowest legal value.
 pub fn lowest() -> [u64; 145] {
-    let mut v = [0u64; 145];
+    let mut v = zeros();
     v[0] = 0x47000000;
     v[4] = 1;
     v

@@ -75,21 +75,33 @@ pub fn whole(name: &[u8], v: &[u64; 145]) {
     read::answer(&h);
 }
 
-// A record into the first n bytes of a buffer of 189.
+// A record into the first n bytes of a buffer: the number.
+fn into_first(v: &[u64; 145], n: usize, buffer: &mut [u8]) -> u64 {
+    if n <= buffer.len() {
+        return header_codec::write(values::header_of(v), &mut buffer[0..n]) as u64;
+    }
+    0
+}
+
+fn marked() -> [u8; 189] {
+    [165; 189]
+}
+
+// A record into the first n bytes of a buffer of 189: the number, and the buffer's hash.
+fn into_buffer(v: &[u64; 145], n: usize) {
+    let mut buffer = marked();
+    output::told(b": ", into_first(v, n, &mut buffer));
+    output::hex(b" ", output::byte_hash(&buffer), 16);
+    output::text(b"\n");
+}
+
+// The model record with another form.
 pub fn length(n: usize, form: u64) {
     let mut v = values::model();
     values::set(&mut v, 4, form);
-    let mut buffer = [165u8; 189];
     output::told(b"write ", n as u64);
     output::told(b" form ", form);
-    if n <= 189 {
-        output::told(
-            b": ",
-            header_codec::write(values::header_of(&v), &mut buffer[..n]) as u64,
-        );
-    }
-    output::hex(b" ", output::byte_hash(&buffer), 16);
-    output::text(b"\n");
+    into_buffer(&v, n);
 }
 
 fn pair(j: usize, x: u64) {
@@ -109,13 +121,7 @@ fn changed(j: usize, x: u64, k: usize, y: u64, l: usize, z: u64) {
     pair(j, x);
     pair(k, y);
     pair(l, z);
-    let mut buffer = [165u8; 188];
-    output::told(
-        b": ",
-        header_codec::write(values::header_of(&v), &mut buffer) as u64,
-    );
-    output::hex(b" ", output::byte_hash(&buffer), 16);
-    output::text(b"\n");
+    into_buffer(&v, 188);
 }
 
 fn one(j: usize, x: u64) {

@@ -336,8 +336,8 @@ fn writer_order(out: &mut String) {
         &[(PACKET, 0x1_4700_0000)],
     ];
     for changes in cases {
-        let mut buffer = [0xA5; HEADER_BYTES];
-        let number = write(&with(model(), changes), &mut buffer);
+        let mut buffer = [0xA5; 189];
+        let number = write(&with(model(), changes), &mut buffer[..188]);
         write!(out, "write").unwrap();
         for (field, value) in changes {
             write!(out, " {field}={value}").unwrap();
