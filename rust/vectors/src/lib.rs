@@ -1,13 +1,22 @@
 //! What the programs of vectors have to write, made by the plain version.
 mod header;
+mod place;
+mod readings;
+mod record;
+mod report;
+
+pub use readings::lines as readings;
 
 /// The names that `expected` knows; the program of each is `crates/NAME_vectors`.
-pub const NAMES: [&str; 1] = ["header"];
+pub const NAMES: [&str; 4] = ["header", "place", "record", "report"];
 
 /// The whole output of a program of vectors.
 pub fn expected(name: &str) -> Option<String> {
     match name {
         "header" => Some(header::lines()),
+        "place" => Some(place::lines()),
+        "record" => Some(record::lines()),
+        "report" => Some(report::lines()),
         _ => None,
     }
 }

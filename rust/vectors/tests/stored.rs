@@ -1,16 +1,29 @@
-//! The stored output of each program of vectors is the plain version's.
-use std::path::Path;
+//! The stored output of each program of vectors, and of the program that reads frames, is the plain version's.
+use std::path::{Path, PathBuf};
+
+fn crates() -> PathBuf {
+    Path::new(env!("CARGO_MANIFEST_DIR")).join("../../crates")
+}
+
+fn compared(path: &Path, expected: &str) {
+    let stored = std::fs::read_to_string(path).expect("a stored output");
+    for (n, (a, b)) in stored.lines().zip(expected.lines()).enumerate() {
+        assert_eq!(a, b, "line {} of {}", n + 1, path.display());
+    }
+    assert!(stored == expected, "{} has another length", path.display());
+}
 
 #[test]
-fn stored_outputs() {
+fn programs_of_vectors() {
     for name in vectors::NAMES {
-        let path = Path::new(env!("CARGO_MANIFEST_DIR"))
-            .join(format!("../../crates/{name}_vectors/stdout"));
-        let stored = std::fs::read_to_string(&path).expect("a stored output");
         let expected = vectors::expected(name).expect("a known name");
-        for (n, (a, b)) in stored.lines().zip(expected.lines()).enumerate() {
-            assert_eq!(a, b, "line {} of {}", n + 1, path.display());
-        }
-        assert!(stored == expected, "{} has another length", path.display());
+        compared(&crates().join(format!("{name}_vectors/stdout")), &expected);
     }
+}
+
+#[test]
+fn frames_read() {
+    let folder = crates().join("read_frames");
+    let input = std::fs::read(folder.join("stdin")).expect("frames");
+    compared(&folder.join("stdout"), &vectors::readings(&input));
 }
