@@ -2,12 +2,13 @@
 mod header;
 mod place;
 mod readings;
+mod receiver;
 mod record;
 mod report;
 
 pub use readings::lines as readings;
 
-/// The names that `expected` knows; the program of each is `crates/NAME_vectors`.
+/// The names whose program's output is stored, in `crates/NAME_vectors`. `expected` knows `receiver` too.
 pub const NAMES: [&str; 4] = ["header", "place", "record", "report"];
 
 /// The whole output of a program of vectors.
@@ -15,6 +16,7 @@ pub fn expected(name: &str) -> Option<String> {
     match name {
         "header" => Some(header::lines()),
         "place" => Some(place::lines()),
+        "receiver" => Some(receiver::lines()),
         "record" => Some(record::lines()),
         "report" => Some(report::lines()),
         _ => None,
