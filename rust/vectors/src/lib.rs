@@ -9,7 +9,7 @@ mod report;
 pub use readings::lines as readings;
 
 /// The names whose program's output is stored, in `crates/NAME_vectors`. `expected` knows `receiver` too.
-pub const NAMES: [&str; 4] = ["header", "place", "record", "report"];
+pub const NAMES: [&str; 5] = ["header", "place", "record", "report", "receiver"];
 
 /// The whole output of a program of vectors.
 pub fn expected(name: &str) -> Option<String> {
