@@ -1,0 +1,71 @@
+-- The promises hold. Assumes nothing.
+use mathlib.Core.Path.{_≡_, refl, sym, ap, _∙_}
+use mathlib.Core.List.{List, [], _∷_, _++_, append-assoc, append-nil}
+use Prim.Native.Nat.{ℕ, zero, suc, _+_, _*_, min}
+use native.Mathlib.Omega.{arith}
+use lib.ListN.{length, take, drop, length-append, length-drop}
+use lib.Seq.{take-all, take-append-le, drop-append-le, take-at, drop-at}
+use Rattle.bits.specs.Refusal.{firstRefusal}
+use Rattle.frame.specs.Read.{judgeOf, frameRefusal, placesIn}
+use Rattle.listing.specs.Decimal.{digits}
+use Rattle.listing.specs.Lines.{lineOf, endLine, pieceCount, lines, listingOf}
+use Rattle.listing.specs.Promises.{Listing}
+use Rattle.listing.proofs.LineLengths.{line-short}
+use Rattle.listing.proofs.Listed.{lines-none, lines-next}
+
+empty : listingOf [] ≡ 101 ∷ 110 ∷ 100 ∷ 32 ∷ 48 ∷ 10 ∷ []
+unfolding listingOf lines endLine digits
+empty = refl
+
+-- ---- in turns
+
+turns : (s t : List ℕ) (k j n : ℕ) → length s ≡ 26 * k → lines (k + j) n (s ++ t) ≡ lines k n s ++ lines j (n + k) t
+turns [] t zero j n h =
+    let a : 0 + j ≡ j = omega arith in
+    let b : n + 0 ≡ n = omega arith in
+    rw (a, b, lines-none n [])
+turns (x ∷ s) t zero j n h = absurd (omega arith)
+turns s t (suc k) j n h =
+    let a : suc k + j ≡ suc (k + j) = omega arith in
+    let b : n + suc k ≡ n + 1 + k = omega arith in
+    rw (a, b, lines-next (k + j) n (s ++ t), lines-next k n s, take-append-le 26 s t (omega arith), drop-append-le 26 s t (omega arith), append-assoc)
+    (ap (lineOf n (judgeOf (take 26 s)) ++_) (turns (drop 26 s) t k j (n + 1) (omega (arith, length-drop 26 s))))
+
+-- ---- where it stops
+
+-- for any number of frames after which reading stops
+stops-at : (m : ℕ) (s t : List ℕ) → length s ≡ 26 * m
+    → lines (min (pieceCount (length (s ++ t))) m) 1 (s ++ t) ++ endLine (min (pieceCount (length (s ++ t))) m)
+    ≡ lines (min (pieceCount (length s)) m) 1 s ++ endLine (min (pieceCount (length s)) m)
+stops-at m s t h =
+    let a : min (pieceCount (length (s ++ t))) m ≡ m = omega (arith, length-append s t) in
+    let b : min (pieceCount (length s)) m ≡ m = omega arith in
+    let z : m + 0 ≡ m = omega arith in
+    let e : lines m 1 (s ++ t) ≡ lines m 1 s =
+    ap (λ (k : ℕ). lines k 1 (s ++ t)) (sym z) ∙ turns s t m 0 1 h ∙ ap (lines m 1 s ++_) (lines-none (1 + m) t) ∙ append-nil (lines m 1 s) in
+    rw (a, b, e)
+
+stops : (s t : List ℕ) → length s ≡ 26 * 999999 → listingOf (s ++ t) ≡ listingOf s
+unfolding listingOf
+stops s t h = stops-at 999999 s t h
+
+-- ---- the example
+
+accepted-line : (f : List ℕ) → frameRefusal f ≡ 0 → placesIn f ≡ 0 → lineOf 1 (judgeOf f) ≡ 49 ∷ 32 ∷ 48 ∷ 32 ∷ 48 ∷ 10 ∷ []
+unfolding judgeOf lineOf digits
+accepted-line f a b = rw (a, b)
+
+-- a short piece
+short-line : (x : List ℕ) → length x ≡ 5 → lineOf 2 (judgeOf x) ≡ 50 ∷ 32 ∷ 49 ∷ 32 ∷ 45 ∷ 10 ∷ []
+unfolding judgeOf lineOf digits frameRefusal firstRefusal
+short-line x h = rw h
+
+example : (f x : List ℕ) → length f ≡ 26 → frameRefusal f ≡ 0 → placesIn f ≡ 0 → length x ≡ 5
+    → listingOf (f ++ x) ≡ 49 ∷ 32 ∷ 48 ∷ 32 ∷ 48 ∷ 10 ∷ 50 ∷ 32 ∷ 49 ∷ 32 ∷ 45 ∷ 10 ∷ 101 ∷ 110 ∷ 100 ∷ 32 ∷ 50 ∷ 10 ∷ []
+unfolding listingOf lines endLine digits
+example f x h a b k =
+    let n : length (f ++ x) ≡ 31 = omega (arith, length-append f x) in
+    rw (n, take-at f x 26 h, drop-at f x 26 h, take-all 26 x (omega arith), accepted-line f a b, short-line x k)
+
+pub listing-laws : Listing
+listing-laws = record { empty = empty; example = example; turns = turns; stops = stops; line-short = line-short }

@@ -1,0 +1,4 @@
+pub mod Decimal
+pub mod Put
+pub mod Lines
+pub mod Promises
