@@ -1,0 +1,53 @@
+-- Document 01's starred worked examples, 1 to 10, gathered under a single claim and stated of the written definitions. Assumes nothing.
+use mathlib.Core.Path.{_≡_}
+use mathlib.Core.List.{List, [], _∷_}
+use Prim.Native.Nat.{ℕ, _<_}
+use lib.ListN.{length, replicate}
+use Rattle.bits.specs.Bits.{bitsOf}
+use Rattle.gf2.specs.Polynomial.{zeros}
+use Rattle.crc.specs.Crc.{crc10}
+use Rattle.crc.specs.Examples.{covered}
+use Rattle.dsc.specs.Code.{CodeWord, weight}
+use Rattle.dsc.specs.Repair.{protected, repairedTo, refusedWith, repairOf}
+use Rattle.dsc.specs.Worked.{generatorWord, SomePlaces}
+use Rattle.frame.specs.Read.{readOf}
+use Rattle.frame.specs.Write.{Legal, recordRefusal, frameOf}
+use Rattle.frame.specs.Worked.{PlaceAt, placeAt}
+use Rattle.frame.specs.declared.Record.{Record}
+use Rattle.frame.specs.declared.Reading.the-variants.{Accepted, Refused}
+use Rattle.follower.specs.Follow.{stepOf}
+use Rattle.follower.specs.Promises.{Warns, Some}
+use Rattle.follower.specs.declared.Kind.{Kind}
+use Rattle.follower.specs.declared.Event.the-variants.{Changed, Skipped}
+use Rattle.follower.specs.declared.Follower.{Follower}
+
+pub record Examples : Type 0 where
+  -- 1. 187 zeros are a code word, 0 repaired
+  pub example1 : CodeWord (zeros 187)
+  pub example1-clean : (f : List ℕ) → length f ≡ 26 → protected f ≡ zeros 187 → repairOf f ≡ repairedTo (zeros 187) 0
+  -- 2. the generator itself is a code word with 18 ones
+  pub example2 : CodeWord generatorWord
+  pub example2-ones : weight generatorWord ≡ 18
+  -- 3. eight of its 18 places set, whichever: repaired to zeros, count 8
+  pub example3 : (f : List ℕ) → SomePlaces 8 f → repairOf f ≡ repairedTo (zeros 187) 8
+  -- 4. nine of them: refusal 4
+  pub example4 : (f : List ℕ) → SomePlaces 9 f → repairOf f ≡ refusedWith 4
+  -- 5. ten of them: repaired to the generator, count 8
+  pub example5 : (f : List ℕ) → SomePlaces 10 f → repairOf f ≡ repairedTo generatorWord 8
+  -- 6. CRC with only B111 set: 1000110011
+  pub example6 : crc10 (covered (111 ∷ [])) ≡ bitsOf 10 0b1000110011
+  -- 7. CRC with only B110 set: 1001010101; with both: 0001100110
+  pub example7-one : crc10 (covered (110 ∷ [])) ≡ bitsOf 10 0b1001010101
+  pub example7-both : crc10 (covered (110 ∷ 111 ∷ [])) ≡ bitsOf 10 0b0001100110
+  -- 8. latitude 900 accepted, 901 refused 9: by the writer, and by the reader of the frame that holds these fields; there are such records
+  pub example8-written : (r : Record) → PlaceAt 900 r → Legal r
+  pub example8-read : (r : Record) → PlaceAt 900 r → readOf (frameOf r) ≡ Accepted r (record { repaired = 0 })
+  pub example8-not-written : (r : Record) → PlaceAt 901 r → recordRefusal r ≡ 9
+  pub example8-not-read : (r : Record) → PlaceAt 901 r → readOf (frameOf r) ≡ Refused 9
+  pub example8-some : (n : ℕ) → n < 1024 → PlaceAt n (placeAt n)
+  -- 9. update 3 then 0, same kind: "changed"; 0 then 3: "skipped"; there are such frames
+  pub example9-changed : (s : Follower) (f g : List ℕ) (k : Kind) → Warns f k 3 → Warns g k 0 → stepOf (stepOf s f .next) g .event ≡ Changed
+  pub example9-skipped : (s : Follower) (f g : List ℕ) (k : Kind) → Warns f k 0 → Warns g k 3 → stepOf (stepOf s f .next) g .event ≡ Skipped
+  pub example9-some : (k : Kind) (u : ℕ) → u < 4 → Some k u
+  -- 10. 26 zero bytes: refusal 3
+  pub example10 : readOf (replicate 26 0) ≡ Refused 3
