@@ -16,8 +16,8 @@ base-requires c κs = search needs
 slice-aggregate-told : tie.Need-slice-aggregate-told Inv-loop μ-loop
 slice-aggregate-told c = search needs
 
-record-requires : tie.Need-record-requires Inv-loop μ-loop
-record-requires c κs = search needs
+record-of-requires : tie.Need-record-of-requires Inv-loop μ-loop
+record-of-requires c κs = search needs
 
 slice-aggregate-write : tie.Need-slice-aggregate-write Inv-loop μ-loop
 slice-aggregate-write c = search needs
@@ -78,7 +78,7 @@ written-spec =
     μ-loop
     base-requires
     slice-aggregate-told
-    record-requires
+    record-of-requires
     slice-aggregate-write
     write-requires
     cast-told
