@@ -1,11 +1,19 @@
-/* Calls what include/gvozdyana.h declares, and compares a few answers. Exits with 0 only if all are as expected. */
+/* Calls every function that include/gvozdyana.h declares, on what is accepted and on what is refused, and compares the answers and the
+ * buffers. Exits with 0 only if all are as expected. */
 #include "gvozdyana.h"
 
 #include <stdio.h>
 #include <string.h>
 
-/* The powers of x in the code's generator. */
-static const unsigned powers[18] = {82, 77, 76, 71, 67, 66, 56, 52, 48, 40, 36, 34, 24, 22, 18, 10, 4, 0};
+/* Frames as they stand on the air: document 01's example 11, with one hit, with the generator's nine places; a place, a cancellation, no
+ * information; and one refusal each. */
+static const char ALL_AREAS[] = "1af7000000000000000000000000000000000000000000000000";
+static const char ONE_HIT[] = "1af7000000000000000000000000000000000000000000000010";
+static const char NINE_HITS[] = "1af7000000000000000000000000004308c01110000000000000";
+static const char PLACE[] = "9af70a0000000ba58ac9aea147094cf61e307cb8e3e2d6661040";
+static const char CANCELLATION[] = "1af70000000001001fffffffffffe43d0ff2f235a3cbf9db1c70";
+static const char NO_INFORMATION[] = "1af77fffffffffffffffffffffff698fbee80b006e0824cd3d10";
+static const char CLEAN_WRONG_CRC[] = "1af7000000000000000000000000004308c01110114014404110";
 
 static int failures = 0;
 
@@ -17,6 +25,32 @@ static void expect(const char *what, int holds)
     }
 }
 
+/* The status and the buffer are as expected. */
+static void expect_left(const char *what, uint32_t status, uint32_t expected_status, const void *left, const void *expected, size_t size)
+{
+    if (status != expected_status) {
+        printf("status %lu, not %lu\n", (unsigned long)status, (unsigned long)expected_status);
+    }
+    expect(what, status == expected_status && memcmp(left, expected, size) == 0);
+}
+
+/* The frame with these digits. */
+static const uint8_t *frame_of(const char *digits)
+{
+    static uint8_t frame[GVZ_FRAME_BYTES];
+    for (int i = 0; i < GVZ_FRAME_BYTES; i++) {
+        unsigned byte = 0;
+        sscanf(digits + 2 * i, "%2x", &byte);
+        frame[i] = (uint8_t)byte;
+    }
+    return frame;
+}
+
+/* ---- The warning frame */
+
+/* The powers of x in the code's generator. */
+static const unsigned powers[18] = {82, 77, 76, 71, 67, 66, 56, 52, 48, 40, 36, 34, 24, 22, 18, 10, 4, 0};
+
 /* A frame of zeros with the first n of the generator's 18 places set: x^p stands at B(203 - p). */
 static void set_places(uint8_t *frame, unsigned n)
 {
@@ -27,46 +61,396 @@ static void set_places(uint8_t *frame, unsigned n)
     }
 }
 
-/* The status is as expected, and of 40 bytes that hold 0xA5 the first 26 are left as `left` and the rest as they were. */
-static void expect_answer(const char *what, const uint8_t *frame, size_t frame_len, size_t word_len, uint32_t status, const uint8_t *left)
+/* Of 40 bytes that hold 0xA5 the first 26 are left as `word`, if it is not NULL, and the rest as they were. */
+static void expect_repair(const char *what, const uint8_t *frame, size_t frame_len, size_t word_len, uint32_t status, const uint8_t *word)
 {
-    uint8_t word[40], expected[40];
-    memset(word, 0xA5, sizeof word);
+    uint8_t left[40], expected[40];
+    memset(left, 0xA5, sizeof left);
     memset(expected, 0xA5, sizeof expected);
-    if (left != NULL) {
-        memcpy(expected, left, GVZ_FRAME_BYTES);
+    if (word != NULL) {
+        memcpy(expected, word, GVZ_FRAME_BYTES);
     }
-    expect(what, gvz_repair(frame, frame_len, word, word_len) == status && memcmp(word, expected, sizeof word) == 0);
+    expect_left(what, gvz_repair(frame, frame_len, left, word_len), status, left, expected, sizeof left);
 }
 
-int main(void)
+static void test_repair(void)
 {
-    uint8_t frame[60], zeros[GVZ_FRAME_BYTES] = {0}, generator[GVZ_FRAME_BYTES];
+    uint8_t frame[60] = {0}, zeros[GVZ_FRAME_BYTES] = {0}, generator[GVZ_FRAME_BYTES];
     set_places(generator, 18);
-    memset(frame, 0, sizeof frame);
 
-    expect_answer("zeros are a code word", zeros, 26, 26, 0, zeros);
-    expect_answer("the generator is a code word", generator, 26, 26, 0, generator);
+    expect_repair("zeros are a code word", zeros, 26, 26, 0, zeros);
+    expect_repair("the generator is a code word", generator, 26, 26, 0, generator);
     set_places(frame, 8);
-    expect_answer("eight places are repaired to zeros", frame, 26, 26, 8 << 8, zeros);
+    expect_repair("eight places are repaired to zeros", frame, 26, 26, 8 << 8, zeros);
     set_places(frame, 9);
-    expect_answer("nine places are refused, and the word stays", frame, 26, 26, GVZ_BEYOND_REPAIR, NULL);
+    expect_repair("nine places are refused, and the word stays", frame, 26, 26, GVZ_BEYOND_REPAIR, NULL);
     set_places(frame, 10);
-    expect_answer("ten places are repaired to the generator", frame, 26, 26, 8 << 8, generator);
+    expect_repair("ten places are repaired to the generator", frame, 26, 26, 8 << 8, generator);
     frame[0] = 0xFF;
     frame[1] = 0xFF;
     frame[2] |= 0x80;
     frame[25] |= 0x0F;
-    expect_answer("B0 to B16 and the filler are not looked at", frame, 26, 26, 8 << 8, generator);
-
+    expect_repair("B0 to B16 and the filler are not looked at", frame, 26, 26, 8 << 8, generator);
     for (size_t n = 0; n <= 40; n++) {
-        if (n != 26) {
-            expect_answer("a frame of another length is refused", frame, n, 26, GVZ_WRONG_LENGTH, NULL);
-            expect_answer("a word of another length is refused", generator, 26, n, GVZ_WRONG_LENGTH, NULL);
+        if (n != GVZ_FRAME_BYTES) {
+            expect_repair("a frame of another length is refused", frame, n, 26, GVZ_WRONG_LENGTH, NULL);
+            expect_repair("a word of another length is refused", generator, 26, n, GVZ_WRONG_LENGTH, NULL);
         }
     }
     expect("the parts of a status", GVZ_NUMBER((3u << 8) + 4) == 4 && GVZ_PLACES((3u << 8) + 4) == 3);
+}
 
+/* The record of PLACE, a test: 35.6 south, 139.7 west, 40 km. */
+static const uint64_t place_record[GVZ_RECORD_VALUES] = {1, 0, 2, 1, 5, 1, 0, 1, 0, 300, 0, 1, 356, 1, 1397, 40, 900, 0};
+
+/* Of 20 values that hold 7 the first 18 are left as `record`, if it is not NULL, and the rest as they were. */
+static void expect_frame_read(const char *what, const char *digits, size_t frame_len, size_t record_len, uint32_t status, const uint64_t *record)
+{
+    uint64_t left[20], expected[20];
+    for (int i = 0; i < 20; i++) {
+        left[i] = 7;
+        expected[i] = record != NULL && i < GVZ_RECORD_VALUES ? record[i] : 7;
+    }
+    expect_left(what, gvz_frame_read(frame_of(digits), frame_len, left, record_len), status, left, expected, sizeof left);
+}
+
+static void test_frame_read(void)
+{
+    const uint64_t zeros[GVZ_RECORD_VALUES] = {0};
+    uint64_t cancellation[GVZ_RECORD_VALUES] = {0}, nothing[GVZ_RECORD_VALUES] = {0};
+    cancellation[GVZ_RECORD_PAGE] = 1;
+    cancellation[GVZ_RECORD_KIND] = 1;
+    nothing[GVZ_RECORD_IDENTIFICATION] = 7;
+    nothing[GVZ_RECORD_BROADCASTER] = 2047;
+
+    expect_frame_read("all areas", ALL_AREAS, 26, 18, 0, zeros);
+    expect_frame_read("one hit", ONE_HIT, 26, 18, 1 << 8, zeros);
+    expect_frame_read("a cancellation", CANCELLATION, 26, 18, 0, cancellation);
+    expect_frame_read("no information", NO_INFORMATION, 26, 18, 0, nothing);
+    expect_frame_read("a place", PLACE, 26, 18, 0, place_record);
+    expect_frame_read("25 bytes", ALL_AREAS, 25, 18, GVZ_WRONG_LENGTH, NULL);
+    expect_frame_read("filler", "1af7000000000000000000000000000000000000000000000001", 26, 18, GVZ_FILLER_SET, NULL);
+    expect_frame_read("no pattern", "0000000000000000000000000000000000000000000000000000", 26, 18, GVZ_NO_PATTERN, NULL);
+    expect_frame_read("nine hits", NINE_HITS, 26, 18, GVZ_BEYOND_REPAIR, NULL);
+    expect_frame_read("CRC", CLEAN_WRONG_CRC, 26, 18, GVZ_FRAME_CRC, NULL);
+    expect_frame_read("identification 4", "1af7640000000000000000000000dd6ba7e8239c630ae7c28140", 26, 18, GVZ_IDENTIFICATION, NULL);
+    expect_frame_read("update 2 of 7", "1af777ffffffff00bfffffffffff3e583d134b51523b875a54e0", 26, 18, GVZ_START_END_OR_UPDATE, NULL);
+    expect_frame_read("B111", "1af7000000000100070a0000000071fee4dcd9339873b730f150", 26, 18, GVZ_FIXED_BIT, NULL);
+    expect_frame_read("latitude 901", "1af70a0000000ba58f0baea14709a335ac25ca42ddbf9efe2c30", 26, 18, GVZ_OVER_LIMIT, NULL);
+    expect_frame_read("a record of 17", ALL_AREAS, 26, 17, GVZ_WRONG_LENGTH, NULL);
+    expect_frame_read("a record of 19", ALL_AREAS, 26, 19, GVZ_WRONG_LENGTH, NULL);
+}
+
+/* place_record with one field changed, written into 28 bytes that hold 0xA5. */
+static void expect_frame_write(const char *what, int field, uint64_t value, size_t record_len, size_t frame_len, uint32_t status, const char *digits)
+{
+    uint64_t record[20] = {0};
+    uint8_t left[28], expected[28];
+    memcpy(record, place_record, sizeof place_record);
+    record[field] = value;
+    memset(left, 0xA5, sizeof left);
+    memset(expected, 0xA5, sizeof expected);
+    if (digits != NULL) {
+        memcpy(expected, frame_of(digits), GVZ_FRAME_BYTES);
+    }
+    expect_left(what, gvz_frame_write(record, record_len, left, frame_len), status, left, expected, sizeof left);
+}
+
+static void test_frame_write(void)
+{
+    expect_frame_write("a place", GVZ_RECORD_TIME, 5, 18, 26, 0, PLACE);
+    expect_frame_write("identification 8", GVZ_RECORD_IDENTIFICATION, 8, 18, 26, GVZ_IDENTIFICATION, NULL);
+    expect_frame_write("depth 1024", GVZ_RECORD_DEPTH, 1024, 18, 26, GVZ_FIELD, NULL);
+    expect_frame_write("a broadcaster", GVZ_RECORD_BROADCASTER, 1, 18, 26, GVZ_FIELD, NULL);
+    expect_frame_write("longitude 1801", GVZ_RECORD_LONGITUDE, 1801, 18, 26, GVZ_OVER_LIMIT, NULL);
+    expect_frame_write("a buffer of 25, before the record", GVZ_RECORD_IDENTIFICATION, 8, 18, 25, GVZ_WRONG_LENGTH, NULL);
+    expect_frame_write("a buffer of 27", GVZ_RECORD_TIME, 5, 18, 27, GVZ_WRONG_LENGTH, NULL);
+    expect_frame_write("a record of 17", GVZ_RECORD_TIME, 5, 17, 26, GVZ_WRONG_LENGTH, NULL);
+    expect_frame_write("a record of 19", GVZ_RECORD_TIME, 5, 19, 26, GVZ_WRONG_LENGTH, NULL);
+}
+
+/* ---- The place in degrees */
+
+/* Of 4 doubles that hold 0.5 the first 3 are left as `place`, if it is not NULL, and the rest as they were. */
+static void expect_report(const char *what, const uint64_t *record, size_t record_len, size_t place_len, uint32_t status, const double *place)
+{
+    double left[4] = {0.5, 0.5, 0.5, 0.5}, expected[4] = {0.5, 0.5, 0.5, 0.5};
+    if (place != NULL) {
+        memcpy(expected, place, GVZ_PLACE_VALUES * sizeof(double));
+    }
+    expect_left(what, gvz_report(record, record_len, left, place_len), status, left, expected, sizeof left);
+}
+
+static void test_report(void)
+{
+    const double place[GVZ_PLACE_VALUES] = {-35.6, -139.7, 40.0}, minus_zero[GVZ_PLACE_VALUES] = {-0.0, -139.7, 40.0};
+    uint64_t record[GVZ_RECORD_VALUES + 1] = {0};
+
+    expect_report("areas only", record, 18, 3, GVZ_REPORT_AREAS_ONLY << 8, NULL);
+    record[GVZ_RECORD_PAGE] = 1;
+    record[GVZ_RECORD_KIND] = 1;
+    expect_report("a cancellation", record, 18, 3, GVZ_REPORT_CANCELLATION << 8, NULL);
+    memset(record, 0, sizeof record);
+    record[GVZ_RECORD_IDENTIFICATION] = 7;
+    expect_report("nothing", record, 18, 3, GVZ_REPORT_NOTHING << 8, NULL);
+    record[GVZ_RECORD_UPDATE] = 1;
+    expect_report("an update where none is free", record, 18, 3, GVZ_FIELD, NULL);
+
+    memcpy(record, place_record, sizeof place_record);
+    expect_report("a place", record, 18, 3, GVZ_REPORT_PLACE << 8, place);
+    expect_report("a record of 17", record, 17, 3, GVZ_WRONG_LENGTH, NULL);
+    expect_report("a record of 19", record, 19, 3, GVZ_WRONG_LENGTH, NULL);
+    expect_report("a place of 2", record, 18, 2, GVZ_WRONG_LENGTH, NULL);
+    expect_report("a place of 4", record, 18, 4, GVZ_WRONG_LENGTH, NULL);
+    record[GVZ_RECORD_LATITUDE] = 0;
+    expect_report("a southern 0", record, 18, 3, GVZ_REPORT_PLACE << 8, minus_zero);
+    record[GVZ_RECORD_LATITUDE] = 901;
+    expect_report("latitude 901", record, 18, 3, GVZ_OVER_LIMIT, NULL);
+    record[GVZ_RECORD_IDENTIFICATION] = 5;
+    expect_report("identification 5", record, 18, 3, GVZ_IDENTIFICATION, NULL);
+}
+
+static double double_of(uint64_t bits)
+{
+    double x;
+    memcpy(&x, &bits, sizeof x);
+    return x;
+}
+
+static void expect_desk(const char *what, double latitude, double longitude, double depth, size_t fields_len, uint32_t status, const uint64_t *fields)
+{
+    uint64_t left[6] = {7, 7, 7, 7, 7, 7}, expected[6] = {7, 7, 7, 7, 7, 7};
+    if (fields != NULL) {
+        memcpy(expected, fields, GVZ_DESK_VALUES * sizeof(uint64_t));
+    }
+    expect_left(what, gvz_desk(latitude, longitude, depth, left, fields_len), status, left, expected, sizeof left);
+}
+
+static void test_desk(void)
+{
+    const uint64_t place[GVZ_DESK_VALUES] = {1, 356, 0, 1397, 40}, zeros[GVZ_DESK_VALUES] = {1, 0, 0, 0, 0};
+
+    expect_desk("a place", -35.6, 139.7, 40.0, 5, 0, place);
+    expect_desk("minus zero", -0.0, 0.0, 0.0, 5, 0, zeros);
+    expect_desk("a depth of minus zero", 0.0, 0.0, -0.0, 5, GVZ_NO_IMAGE, NULL);
+    expect_desk("latitude 90.1", 90.1, 0.0, 0.0, 5, GVZ_NO_IMAGE, NULL);
+    expect_desk("longitude 180.1", 0.0, 180.1, 0.0, 5, GVZ_NO_IMAGE, NULL);
+    expect_desk("a double beside 0.9", double_of(0x3FECCCCCCCCCCCCC), 0.0, 0.0, 5, GVZ_NO_IMAGE, NULL);
+    expect_desk("no number", 0.0, double_of(0x7FF8000000000001), 0.0, 5, GVZ_NO_IMAGE, NULL);
+    expect_desk("no number, signalling", double_of(0xFFF0000000000001), 0.0, 0.0, 5, GVZ_NO_IMAGE, NULL);
+    expect_desk("infinity", 0.0, 0.0, double_of(0x7FF0000000000000), 5, GVZ_NO_IMAGE, NULL);
+    expect_desk("fields of 4", -35.6, 139.7, 40.0, 4, GVZ_WRONG_LENGTH, NULL);
+    expect_desk("fields of 6, before the place", 90.1, 139.7, 40.0, 6, GVZ_WRONG_LENGTH, NULL);
+}
+
+/* ---- Following the update number, and two tuners */
+
+static void expect_follow(const char *what, uint32_t state, const char *digits, size_t frame_len, uint32_t number, uint32_t event, uint32_t next)
+{
+    uint32_t status = gvz_follow(state, frame_of(digits), frame_len);
+    expect(what, status == number + (event << 8) + (next << 16) && GVZ_NUMBER(status) == number && GVZ_EVENT(status) == event
+        && GVZ_STATE(status) == next);
+}
+
+static void test_follow(void)
+{
+    /* ALL_AREAS is real with update 0, PLACE a test with update 1. */
+    expect_follow("begins", GVZ_STATE_QUIET, ALL_AREAS, 26, 0, GVZ_EVENT_BEGINS, GVZ_STATE_REAL(0u));
+    expect_follow("same", GVZ_STATE_REAL(0u), ONE_HIT, 26, 0, GVZ_EVENT_SAME, GVZ_STATE_REAL(0u));
+    expect_follow("changed", GVZ_STATE_REAL(3u), CANCELLATION, 26, 0, GVZ_EVENT_CHANGED, GVZ_STATE_REAL(0u));
+    expect_follow("skipped", GVZ_STATE_TEST(2u), PLACE, 26, 0, GVZ_EVENT_SKIPPED, GVZ_STATE_TEST(1u));
+    expect_follow("of the other kind", GVZ_STATE_REAL(1u), PLACE, 26, 0, GVZ_EVENT_BEGINS, GVZ_STATE_TEST(1u));
+    expect_follow("ended", GVZ_STATE_TEST(3u), NO_INFORMATION, 26, 0, GVZ_EVENT_ENDED, GVZ_STATE_QUIET);
+    expect_follow("quiet", GVZ_STATE_QUIET, NO_INFORMATION, 26, 0, GVZ_EVENT_QUIET, GVZ_STATE_QUIET);
+    expect_follow("refused", GVZ_STATE_TEST(3u), NINE_HITS, 26, GVZ_BEYOND_REPAIR, GVZ_EVENT_REFUSED, GVZ_STATE_TEST(3u));
+    expect_follow("5 bytes", GVZ_STATE_REAL(2u), ALL_AREAS, 5, GVZ_WRONG_LENGTH, GVZ_EVENT_REFUSED, GVZ_STATE_REAL(2u));
+    expect_follow("a state of no number", 3u, ALL_AREAS, 26, 0, GVZ_EVENT_BEGINS, GVZ_STATE_REAL(0u));
+    expect_follow("a large state", 0xFFFFFFFFu, NINE_HITS, 26, GVZ_BEYOND_REPAIR, GVZ_EVENT_REFUSED, GVZ_STATE_QUIET);
+}
+
+static void expect_capture(const char *what, const uint8_t *main_capture, size_t main_len, const uint8_t *spare_capture, size_t spare_len, uint64_t n, uint32_t main_number,
+    uint32_t spare_number, uint32_t source)
+{
+    uint32_t numbers = gvz_capture_numbers(main_capture, main_len, spare_capture, spare_len, n);
+    expect(what, GVZ_MAIN_NUMBER(numbers) == main_number && GVZ_SPARE_NUMBER(numbers) == spare_number
+        && gvz_capture_source(main_capture, main_len, spare_capture, spare_len, n) == source);
+}
+
+static void test_captures(void)
+{
+    /* main: one hit, nine hits, no pattern; spare: a wrong CRC, a place, a wrong CRC */
+    uint8_t main_capture[3 * GVZ_FRAME_BYTES] = {0}, spare_capture[3 * GVZ_FRAME_BYTES];
+    memcpy(main_capture, frame_of(ONE_HIT), GVZ_FRAME_BYTES);
+    memcpy(main_capture + 26, frame_of(NINE_HITS), GVZ_FRAME_BYTES);
+    memcpy(spare_capture, frame_of(CLEAN_WRONG_CRC), GVZ_FRAME_BYTES);
+    memcpy(spare_capture + 26, frame_of(PLACE), GVZ_FRAME_BYTES);
+    memcpy(spare_capture + 52, frame_of(CLEAN_WRONG_CRC), GVZ_FRAME_BYTES);
+
+    expect_capture("main", main_capture, 78, spare_capture, 78, 0, 0, GVZ_FRAME_CRC, GVZ_MAIN);
+    expect_capture("spare", main_capture, 78, spare_capture, 78, 1, GVZ_BEYOND_REPAIR, 0, GVZ_SPARE);
+    expect_capture("neither", main_capture, 78, spare_capture, 78, 2, GVZ_NO_PATTERN, GVZ_FRAME_CRC, GVZ_NEITHER);
+    expect_capture("a main capture of 51 bytes", main_capture, 51, spare_capture, 52, 1, GVZ_WRONG_LENGTH, 0, GVZ_SPARE);
+    expect_capture("empty captures", main_capture, 0, spare_capture, 0, 0, GVZ_WRONG_LENGTH, GVZ_WRONG_LENGTH, GVZ_NEITHER);
+    expect_capture("26 n past 64 bits", main_capture, 78, spare_capture, 78, UINT64_C(1) << 63, GVZ_WRONG_LENGTH, GVZ_WRONG_LENGTH, GVZ_NEITHER);
+    expect_capture("the largest n", main_capture, 78, spare_capture, 78, UINT64_MAX, GVZ_WRONG_LENGTH, GVZ_WRONG_LENGTH, GVZ_NEITHER);
+}
+
+/* ---- The cable header */
+
+/* All streams valid, with the identifiers (i, 1) for stream i, empty slots and no frame. */
+static void model_record(uint64_t *record)
+{
+    memset(record, 0, GVZ_HEADER_VALUES * sizeof(uint64_t));
+    record[GVZ_HEADER_PACKET] = 0x47000000;
+    record[GVZ_HEADER_FORM] = 1;
+    for (int i = 0; i < 15; i++) {
+        record[GVZ_HEADER_VALID + i] = 1;
+        record[GVZ_HEADER_IDENTIFIERS + 2 * i] = (uint64_t)i + 1;
+        record[GVZ_HEADER_IDENTIFIERS + 2 * i + 1] = 1;
+    }
+    for (int i = 0; i < 26; i++) {
+        record[GVZ_HEADER_AC + i] = i < 25 ? 0xFF : 0xF;
+    }
+}
+
+/* The same as bytes, with this CRC. */
+static void model_header(uint8_t *header, uint32_t crc)
+{
+    memset(header, 0, GVZ_HEADER_BYTES);
+    header[0] = 0x47;
+    header[6] = 0x01;
+    header[7] = 0xFF;
+    header[8] = 0xFF;
+    for (int i = 0; i < 15; i++) {
+        header[9 + 4 * i + 1] = (uint8_t)(i + 1);
+        header[9 + 4 * i + 3] = 1;
+    }
+    memset(header + 99, 0xFF, 85);
+    for (int i = 0; i < 4; i++) {
+        header[184 + i] = (uint8_t)(crc >> (24 - 8 * i));
+    }
+}
+
+static void expect_header_read(const char *what, const uint8_t *header, size_t header_len, size_t record_len, uint32_t status, const uint64_t *record)
+{
+    uint64_t left[GVZ_HEADER_VALUES + 1], expected[GVZ_HEADER_VALUES + 1];
+    for (int i = 0; i <= GVZ_HEADER_VALUES; i++) {
+        left[i] = 7;
+        expected[i] = record != NULL && i < GVZ_HEADER_VALUES ? record[i] : 7;
+    }
+    expect_left(what, gvz_header_read(header, header_len, left, record_len), status, left, expected, sizeof left);
+}
+
+static void test_header_read(void)
+{
+    uint8_t header[GVZ_HEADER_BYTES + 1] = {0};
+    uint64_t record[GVZ_HEADER_VALUES];
+    model_record(record);
+    model_header(header, 0xE760A571);
+
+    expect_header_read("the model header", header, 188, 145, 0, record);
+    expect_header_read("a header of 187", header, 187, 145, GVZ_WRONG_LENGTH, NULL);
+    expect_header_read("a header of 189", header, 189, 145, GVZ_WRONG_LENGTH, NULL);
+    expect_header_read("a record of 144", header, 188, 144, GVZ_WRONG_LENGTH, NULL);
+    expect_header_read("a record of 146", header, 188, 146, GVZ_WRONG_LENGTH, NULL);
+    header[3] = 0x12;
+    record[GVZ_HEADER_PACKET] = 0x47000012;
+    expect_header_read("the CRC begins after byte 3", header, 188, 145, 0, record);
+    header[187] ^= 1;
+    expect_header_read("CRC", header, 188, 145, GVZ_HEADER_CRC, NULL);
+    header[0] = 0x46;
+    expect_header_read("byte 0, before the CRC", header, 188, 145, GVZ_HEADER_SYNC, NULL);
+    model_header(header, 0xA94B8658);
+    header[6] = 0x02;
+    expect_header_read("form 2", header, 188, 145, GVZ_MULTIPLEX_FORM, NULL);
+    expect_header_read("a record of 144, before the header", header, 188, 144, GVZ_WRONG_LENGTH, NULL);
+    /* a reception state of 11, and the CRC that belongs to it */
+    model_header(header, 0x242CB9D2);
+    header[69] = 0xC0;
+    expect_header_read("reception state 11", header, 188, 145, GVZ_HEADER_BITS, NULL);
+}
+
+/* The model record with one field changed, written into 190 bytes that hold 0xA5. */
+static void expect_header_write(const char *what, int field, uint64_t value, size_t record_len, size_t header_len, uint32_t status, const uint8_t *header)
+{
+    uint64_t record[GVZ_HEADER_VALUES + 1] = {0};
+    uint8_t left[190], expected[190];
+    model_record(record);
+    record[field] = value;
+    memset(left, 0xA5, sizeof left);
+    memset(expected, 0xA5, sizeof expected);
+    if (header != NULL) {
+        memcpy(expected, header, GVZ_HEADER_BYTES);
+    }
+    expect_left(what, gvz_header_write(record, record_len, left, header_len), status, left, expected, sizeof left);
+}
+
+static void test_header_write(void)
+{
+    uint8_t header[GVZ_HEADER_BYTES];
+    model_header(header, 0xE760A571);
+
+    expect_header_write("the model header", GVZ_HEADER_FORM, 1, 145, 188, 0, header);
+    expect_header_write("slot value 16", GVZ_HEADER_SLOTS + 51, 16, 145, 188, GVZ_FIELD, NULL);
+    expect_header_write("form 16", GVZ_HEADER_FORM, 16, 145, 188, GVZ_FIELD, NULL);
+    expect_header_write("byte 0", GVZ_HEADER_PACKET, 0x46000000, 145, 188, GVZ_HEADER_SYNC, NULL);
+    expect_header_write("form 15", GVZ_HEADER_FORM, 15, 145, 188, GVZ_MULTIPLEX_FORM, NULL);
+    expect_header_write("reception state 3", GVZ_HEADER_STATES + 14, 3, 145, 188, GVZ_HEADER_BITS, NULL);
+    expect_header_write("a buffer of 187", GVZ_HEADER_FORM, 1, 145, 187, GVZ_WRONG_LENGTH, NULL);
+    expect_header_write("a buffer of 189, before the record", GVZ_HEADER_FORM, 9, 145, 189, GVZ_WRONG_LENGTH, NULL);
+    expect_header_write("a record of 144", GVZ_HEADER_FORM, 1, 144, 188, GVZ_WRONG_LENGTH, NULL);
+    expect_header_write("a record of 146", GVZ_HEADER_FORM, 1, 146, 188, GVZ_WRONG_LENGTH, NULL);
+}
+
+static void expect_lay_in(const char *what, const uint8_t *before, size_t header_len, const char *digits, size_t frame_len, uint32_t status, const uint8_t *after)
+{
+    uint8_t header[GVZ_HEADER_BYTES];
+    memcpy(header, before, sizeof header);
+    expect_left(what, gvz_lay_in(header, header_len, frame_of(digits), frame_len), status, header, after, sizeof header);
+}
+
+static void expect_take_out(const char *what, const uint8_t *before, size_t header_len, uint32_t status, const uint8_t *after)
+{
+    uint8_t header[GVZ_HEADER_BYTES];
+    memcpy(header, before, sizeof header);
+    expect_left(what, gvz_take_out(header, header_len), status, header, after, sizeof header);
+}
+
+static void test_laying(void)
+{
+    uint8_t empty[GVZ_HEADER_BYTES], laid[GVZ_HEADER_BYTES], broken[GVZ_HEADER_BYTES];
+    model_header(empty, 0xE760A571);
+    model_header(laid, 0xB0AC5A53);
+    memcpy(laid + 99, frame_of(ALL_AREAS), 25);
+    laid[124] = 0x0F;
+    model_header(broken, 0xE760A570);
+
+    expect_lay_in("all areas", empty, 188, ALL_AREAS, 26, 0, laid);
+    expect_lay_in("one hit is repaired", empty, 188, ONE_HIT, 26, 0, laid);
+    expect_lay_in("laid in twice", laid, 188, ALL_AREAS, 26, 0, laid);
+    expect_lay_in("nine hits", empty, 188, NINE_HITS, 26, GVZ_BEYOND_REPAIR, empty);
+    expect_lay_in("a frame of 25", empty, 188, ALL_AREAS, 25, GVZ_WRONG_LENGTH, empty);
+    expect_lay_in("a header of 187", empty, 187, ALL_AREAS, 26, GVZ_WRONG_LENGTH, empty);
+    expect_lay_in("the header before the frame", broken, 188, ALL_AREAS, 0, GVZ_HEADER_CRC, broken);
+
+    expect_take_out("taken out", laid, 188, 0, empty);
+    expect_take_out("taken out of an empty one", empty, 188, 0, empty);
+    expect_take_out("a wrong CRC", broken, 188, GVZ_HEADER_CRC, broken);
+    expect_take_out("a header of 187", laid, 187, GVZ_WRONG_LENGTH, laid);
+}
+
+int main(void)
+{
+    test_repair();
+    test_frame_read();
+    test_frame_write();
+    test_report();
+    test_desk();
+    test_follow();
+    test_captures();
+    test_header_read();
+    test_header_write();
+    test_laying();
     if (failures == 0) {
         printf("c: all answers are as expected\n");
     }

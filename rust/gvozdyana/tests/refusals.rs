@@ -15,7 +15,10 @@ fn numbers() {
 fn the_header_has_the_same_names_and_numbers() {
     let header = include_str!("../../../include/gvozdyana.h");
     let mut declared = Vec::new();
-    for line in header.lines() {
+    let refusals = header
+        .lines()
+        .skip_while(|line| !line.starts_with("enum gvz_refusal"));
+    for line in refusals.take_while(|line| !line.starts_with('}')) {
         if let Some((name, number)) = line.trim().trim_end_matches(',').split_once(" = ") {
             declared.push((name.to_string(), number.parse::<u8>().expect("a number")));
         }
