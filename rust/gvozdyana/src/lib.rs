@@ -1,4 +1,32 @@
-//! The proved functions of Gvozdyana, for Rust programs. What each answers is proved; this crate only hands the bytes over.
+//! The proved functions of Gvozdyana, for Rust programs. What each answers is proved; this crate hands numbers and bytes
+//! over. It computes nothing itself but [`frame::Record::warned`] and the part of a capture in [`capture::frame_at`].
+//!
+//! A frame that arrived with one bit hit is read, followed, and laid into a header:
+//!
+//! ```
+//! use gvozdyana::follower::{Event, State};
+//! use gvozdyana::header::{lay_in, write, Header};
+//! use gvozdyana::place::{report, Report};
+//!
+//! let mut frame = [0; 26];
+//! (frame[0], frame[1], frame[25]) = (0x1A, 0xF7, 0x10);
+//! let reading = gvozdyana::frame::read(&frame)?;
+//! assert_eq!(reading.places, 1);
+//! assert!(reading.record.warned(15));
+//! assert_eq!(report(&reading.record)?, Report::AreasOnly);
+//! assert_eq!(State::default().follow(&frame).1, Event::Begins);
+//!
+//! let mut header = write(&Header::default())?;
+//! lay_in(&mut header, &frame)?;
+//! assert_eq!(header[99..101], [0x1A, 0xF7]);
+//! # Ok::<(), gvozdyana::Refusal>(())
+//! ```
+pub mod calls;
+pub mod capture;
+pub mod follower;
+pub mod frame;
+pub mod header;
+pub mod place;
 mod refusal;
 mod repair;
 
@@ -8,13 +36,13 @@ pub use repair::{repair, repair_into, Repaired};
 /// The bytes of a frame.
 pub const FRAME_BYTES: usize = 26;
 
-/// The number of repaired places of a status, or the refusal: the number is in the low 8 bits, the places above it.
-fn places(status: u32) -> Result<u8, Refusal> {
-    match status & 255 {
-        0 => Ok((status >> 8) as u8),
-        number => {
-            Err(Refusal::from_number(number as u8)
-                .expect("the archive knows only the numbers 1 to 15"))
-        }
+/// The bytes of a header.
+pub const HEADER_BYTES: usize = 188;
+
+/// What a status tells above the refusal's number, or the refusal.
+fn told(status: u32) -> Result<u32, Refusal> {
+    match Refusal::from_status(status) {
+        None => Ok(status >> 8),
+        Some(refusal) => Err(refusal),
     }
 }

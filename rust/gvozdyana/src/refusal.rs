@@ -48,8 +48,27 @@ refusals! {
 }
 
 impl Refusal {
+    /// Document 01's number.
+    ///
+    /// ```
+    /// use gvozdyana::Refusal;
+    ///
+    /// assert_eq!(Refusal::BeyondRepair.number(), 4);
+    /// assert_eq!(Refusal::from_number(4), Some(Refusal::BeyondRepair));
+    /// assert_eq!(Refusal::from_number(16), None);
+    /// ```
     pub fn number(self) -> u8 {
         self as u8
+    }
+
+    /// The refusal whose number is in the low 8 bits of a status; none where they are 0.
+    pub(crate) fn from_status(status: u32) -> Option<Refusal> {
+        match (status & 255) as u8 {
+            0 => None,
+            number => Some(
+                Refusal::from_number(number).expect("the archive knows only the numbers 1 to 15"),
+            ),
+        }
     }
 }
 

@@ -1,8 +1,4 @@
-use crate::{places, Refusal, FRAME_BYTES};
-
-extern "C" {
-    fn gvz_repair(frame: *const u8, frame_len: usize, word: *mut u8, word_len: usize) -> u32;
-}
+use crate::{calls, told, Refusal, FRAME_BYTES};
 
 /// A repaired code word, and the number of places in which the received bits differ from it.
 #[derive(Clone, Copy, Debug, PartialEq, Eq)]
@@ -13,6 +9,17 @@ pub struct Repaired {
 }
 
 /// The repair asked for alone: the code word within eight places of B17 to B203. Refuses 1, then 4.
+///
+/// ```
+/// use gvozdyana::{repair, Refusal};
+///
+/// let mut frame = [0; 26];
+/// frame[25] = 0x10;
+/// let repaired = repair(&frame)?;
+/// assert_eq!((repaired.word, repaired.places), ([0; 26], 1));
+/// assert_eq!(repair(&frame[..25]), Err(Refusal::WrongLength));
+/// # Ok::<(), Refusal>(())
+/// ```
 pub fn repair(frame: &[u8]) -> Result<Repaired, Refusal> {
     let mut word = [0; FRAME_BYTES];
     let places = repair_into(frame, &mut word)?;
@@ -21,7 +28,5 @@ pub fn repair(frame: &[u8]) -> Result<Repaired, Refusal> {
 
 /// The same into a buffer of 26 bytes, which a refusal leaves as it was. A buffer of another length is refusal 1.
 pub fn repair_into(frame: &[u8], word: &mut [u8]) -> Result<u8, Refusal> {
-    // SAFETY: both pointers are those of slices, with their lengths, and a `&mut` slice overlaps no other.
-    let status = unsafe { gvz_repair(frame.as_ptr(), frame.len(), word.as_mut_ptr(), word.len()) };
-    places(status)
+    told(calls::repair(frame, word)).map(|places| places as u8)
 }

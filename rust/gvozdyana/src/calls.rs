@@ -1,0 +1,189 @@
+//! The exported functions as the archive has them, over numbers and slices. Each answers a status: the refusal's number in the low 8 bits,
+//! 0 where nothing was refused, and above them what else it tells. A refusal leaves every buffer as it was, and a buffer of another
+//! length than the one named is refusal 1. The other modules say the same with types.
+
+mod archive {
+    extern "C" {
+        pub fn gvz_repair(
+            frame: *const u8,
+            frame_len: usize,
+            word: *mut u8,
+            word_len: usize,
+        ) -> u32;
+        pub fn gvz_frame_read(
+            frame: *const u8,
+            frame_len: usize,
+            record: *mut u64,
+            record_len: usize,
+        ) -> u32;
+        pub fn gvz_frame_write(
+            record: *const u64,
+            record_len: usize,
+            frame: *mut u8,
+            frame_len: usize,
+        ) -> u32;
+        pub fn gvz_report(
+            record: *const u64,
+            record_len: usize,
+            place: *mut f64,
+            place_len: usize,
+        ) -> u32;
+        pub fn gvz_desk(
+            latitude: f64,
+            longitude: f64,
+            depth: f64,
+            fields: *mut u64,
+            fields_len: usize,
+        ) -> u32;
+        pub fn gvz_follow(state: u32, frame: *const u8, frame_len: usize) -> u32;
+        pub fn gvz_capture_source(
+            main: *const u8,
+            main_len: usize,
+            spare: *const u8,
+            spare_len: usize,
+            n: u64,
+        ) -> u32;
+        pub fn gvz_capture_numbers(
+            main: *const u8,
+            main_len: usize,
+            spare: *const u8,
+            spare_len: usize,
+            n: u64,
+        ) -> u32;
+        pub fn gvz_header_read(
+            header: *const u8,
+            header_len: usize,
+            record: *mut u64,
+            record_len: usize,
+        ) -> u32;
+        pub fn gvz_header_write(
+            record: *const u64,
+            record_len: usize,
+            header: *mut u8,
+            header_len: usize,
+        ) -> u32;
+        pub fn gvz_lay_in(
+            header: *mut u8,
+            header_len: usize,
+            frame: *const u8,
+            frame_len: usize,
+        ) -> u32;
+        pub fn gvz_take_out(header: *mut u8, header_len: usize) -> u32;
+    }
+}
+
+// SAFETY, of every call below: each pointer is that of a slice, beside its length, and a `&mut` slice overlaps no other.
+
+/// The number and 256 times the repaired places; `word` has 26 bytes.
+pub fn repair(frame: &[u8], word: &mut [u8]) -> u32 {
+    unsafe { archive::gvz_repair(frame.as_ptr(), frame.len(), word.as_mut_ptr(), word.len()) }
+}
+
+/// The number and 256 times the repaired places; `record` has 18 values.
+pub fn frame_read(frame: &[u8], record: &mut [u64]) -> u32 {
+    unsafe {
+        archive::gvz_frame_read(
+            frame.as_ptr(),
+            frame.len(),
+            record.as_mut_ptr(),
+            record.len(),
+        )
+    }
+}
+
+/// The number; `record` has 18 values and `frame` 26 bytes.
+pub fn frame_write(record: &[u64], frame: &mut [u8]) -> u32 {
+    unsafe {
+        archive::gvz_frame_write(
+            record.as_ptr(),
+            record.len(),
+            frame.as_mut_ptr(),
+            frame.len(),
+        )
+    }
+}
+
+/// The number and 256 times the case; `record` has 18 values and `place`, which is written for a place alone, 3.
+pub fn report(record: &[u64], place: &mut [f64]) -> u32 {
+    unsafe {
+        archive::gvz_report(
+            record.as_ptr(),
+            record.len(),
+            place.as_mut_ptr(),
+            place.len(),
+        )
+    }
+}
+
+/// The number; `fields` has 5 values.
+pub fn desk(latitude: f64, longitude: f64, depth: f64, fields: &mut [u64]) -> u32 {
+    unsafe {
+        archive::gvz_desk(
+            latitude,
+            longitude,
+            depth,
+            fields.as_mut_ptr(),
+            fields.len(),
+        )
+    }
+}
+
+/// The number, 256 times the event and 65536 times the new state.
+pub fn follow(state: u32, frame: &[u8]) -> u32 {
+    unsafe { archive::gvz_follow(state, frame.as_ptr(), frame.len()) }
+}
+
+/// 0 for neither, 1 for main, 2 for spare.
+pub fn capture_source(main: &[u8], spare: &[u8], n: u64) -> u32 {
+    unsafe {
+        archive::gvz_capture_source(main.as_ptr(), main.len(), spare.as_ptr(), spare.len(), n)
+    }
+}
+
+/// Main's number and 256 times spare's.
+pub fn capture_numbers(main: &[u8], spare: &[u8], n: u64) -> u32 {
+    unsafe {
+        archive::gvz_capture_numbers(main.as_ptr(), main.len(), spare.as_ptr(), spare.len(), n)
+    }
+}
+
+/// The number; `record` has 145 values.
+pub fn header_read(header: &[u8], record: &mut [u64]) -> u32 {
+    unsafe {
+        archive::gvz_header_read(
+            header.as_ptr(),
+            header.len(),
+            record.as_mut_ptr(),
+            record.len(),
+        )
+    }
+}
+
+/// The number; `record` has 145 values and `header` 188 bytes.
+pub fn header_write(record: &[u64], header: &mut [u8]) -> u32 {
+    unsafe {
+        archive::gvz_header_write(
+            record.as_ptr(),
+            record.len(),
+            header.as_mut_ptr(),
+            header.len(),
+        )
+    }
+}
+
+/// The number; `header` is changed in place.
+pub fn lay_in(header: &mut [u8], frame: &[u8]) -> u32 {
+    unsafe {
+        archive::gvz_lay_in(
+            header.as_mut_ptr(),
+            header.len(),
+            frame.as_ptr(),
+            frame.len(),
+        )
+    }
+}
+
+/// The number; `header` is changed in place.
+pub fn take_out(header: &mut [u8]) -> u32 {
+    unsafe { archive::gvz_take_out(header.as_mut_ptr(), header.len()) }
+}

@@ -1,0 +1,49 @@
+//! The captures of two tuners: frames end to end, frame n at byte 26 n.
+use crate::{calls, Refusal, FRAME_BYTES};
+
+#[derive(Clone, Copy, Debug, PartialEq, Eq, Hash)]
+pub enum Tuner {
+    Main,
+    Spare,
+}
+
+/// The tuner that frame n is taken from: main if it is accepted there, otherwise spare if it is accepted there.
+pub fn source(main: &[u8], spare: &[u8], n: u64) -> Option<Tuner> {
+    match calls::capture_source(main, spare, n) {
+        0 => None,
+        1 => Some(Tuner::Main),
+        2 => Some(Tuner::Spare),
+        tuner => unreachable!("the archive knows no tuner {tuner}"),
+    }
+}
+
+/// Frame n's own bytes, as received, in the capture that it is taken from.
+///
+/// ```
+/// use gvozdyana::capture::{frame_at, numbers};
+/// use gvozdyana::frame::{write, Record};
+/// use gvozdyana::Refusal;
+///
+/// let spare = write(&Record::default())?;
+/// let main = [0; 26];
+/// assert_eq!(frame_at(&main, &spare, 0), Some(&spare[..]));
+/// assert_eq!(numbers(&main, &spare, 0), (Err(Refusal::NoPattern), Ok(())));
+/// assert_eq!(frame_at(&main, &spare, 1 << 63), None);
+/// # Ok::<(), Refusal>(())
+/// ```
+pub fn frame_at<'a>(main: &'a [u8], spare: &'a [u8], n: u64) -> Option<&'a [u8]> {
+    let capture = match source(main, spare, n)? {
+        Tuner::Main => main,
+        Tuner::Spare => spare,
+    };
+    capture
+        .chunks_exact(FRAME_BYTES)
+        .nth(usize::try_from(n).ok()?)
+}
+
+/// What each tuner says of frame n, main first; a frame number past a capture is refusal 1 there.
+pub fn numbers(main: &[u8], spare: &[u8], n: u64) -> (Result<(), Refusal>, Result<(), Refusal>) {
+    let status = calls::capture_numbers(main, spare, n);
+    let of = |number| Refusal::from_status(number).map_or(Ok(()), Err);
+    (of(status), of(status >> 8))
+}

@@ -1,0 +1,96 @@
+//! The update number followed.
+use crate::{calls, Refusal};
+
+/// An update number, 0 to 3.
+#[derive(Clone, Copy, Debug, PartialEq, Eq, Hash)]
+pub struct Update(u8);
+
+impl Update {
+    /// None above 3.
+    pub fn new(number: u8) -> Option<Update> {
+        (number < 4).then_some(Update(number))
+    }
+
+    pub fn number(self) -> u8 {
+        self.0
+    }
+}
+
+/// What the follower keeps between frames. A new one, and one that is reset, is quiet.
+#[derive(Clone, Copy, Debug, Default, PartialEq, Eq, Hash)]
+pub enum State {
+    #[default]
+    Quiet,
+    Real(Update),
+    Test(Update),
+}
+
+/// What a frame means after those before it.
+#[derive(Clone, Copy, Debug, PartialEq, Eq, Hash)]
+pub enum Event {
+    Quiet,
+    Ended,
+    Begins,
+    Same,
+    Changed,
+    Skipped,
+    /// The frame is refused, and the state stays.
+    Refused(Refusal),
+}
+
+impl State {
+    /// The state's number: 0 quiet, 4 and the update number real, 8 and the update number test.
+    pub fn number(self) -> u32 {
+        match self {
+            State::Quiet => 0,
+            State::Real(update) => 4 + u32::from(update.0),
+            State::Test(update) => 8 + u32::from(update.0),
+        }
+    }
+
+    /// The state with this number; any other number is taken for quiet.
+    ///
+    /// ```
+    /// use gvozdyana::follower::{State, Update};
+    ///
+    /// let state = State::Real(Update::new(3).unwrap());
+    /// assert_eq!(State::from_number(state.number()), state);
+    /// assert_eq!(State::from_number(12), State::Quiet);
+    /// ```
+    pub fn from_number(number: u32) -> State {
+        match number {
+            4..=7 => State::Real(Update(number as u8 - 4)),
+            8..=11 => State::Test(Update(number as u8 - 8)),
+            _ => State::Quiet,
+        }
+    }
+
+    /// The next state and the event.
+    ///
+    /// ```
+    /// use gvozdyana::follower::{Event, State};
+    /// use gvozdyana::frame::{write, Record};
+    /// use gvozdyana::Refusal;
+    ///
+    /// let of = |update| write(&Record { update, ..Record::default() });
+    /// let (state, event) = State::default().follow(&of(3)?);
+    /// assert_eq!(event, Event::Begins);
+    /// assert_eq!(state.follow(&of(0)?).1, Event::Changed);
+    /// assert_eq!(state.follow(&[]), (state, Event::Refused(Refusal::WrongLength)));
+    /// # Ok::<(), Refusal>(())
+    /// ```
+    pub fn follow(self, frame: &[u8]) -> (State, Event) {
+        let status = calls::follow(self.number(), frame);
+        let event = match (Refusal::from_status(status), status >> 8 & 255) {
+            (Some(refusal), _) => Event::Refused(refusal),
+            (None, 0) => Event::Quiet,
+            (None, 1) => Event::Ended,
+            (None, 2) => Event::Begins,
+            (None, 3) => Event::Same,
+            (None, 4) => Event::Changed,
+            (None, 5) => Event::Skipped,
+            (None, event) => unreachable!("the archive knows no event {event}"),
+        };
+        (State::from_number(status >> 16), event)
+    }
+}
