@@ -1,4 +1,9 @@
-//! Frames to try the repair on, each made from a seed: the same seed gives the same frame.
+//! Frames, records, headers and doubles to try the two versions on, each made from a seed: the same seed gives the same sample.
+pub mod doubles;
+pub mod frames;
+pub mod headers;
+pub mod records;
+
 use reference::code::{encode, frame_of, Word, DEGREE, GENERATOR, LENGTH, MESSAGE};
 use reference::{flip_bit, FRAME_BYTES};
 
@@ -21,6 +26,21 @@ impl Random {
     /// A number below n.
     pub fn below(&mut self, n: usize) -> usize {
         (self.number() % n as u64) as usize
+    }
+
+    /// A number up to the greatest; the two ends, and 1, are as likely as all others together.
+    pub fn up_to(&mut self, most: u64) -> u64 {
+        match self.below(6) {
+            0 => 0,
+            1 => most,
+            2 => most.min(1),
+            _ => self.number() % (most + 1),
+        }
+    }
+
+    /// One of these.
+    pub fn pick<T: Copy>(&mut self, from: &[T]) -> T {
+        from[self.below(from.len())]
     }
 
     pub fn bytes(&mut self, n: usize) -> Vec<u8> {

@@ -1,0 +1,69 @@
+//! Seeded cases. GVZ_SEED starts from another seed; GVZ_FRAMES and GVZ_HEADERS ask for other numbers of cases. A mismatch tells its case.
+#![allow(dead_code)]
+use gvozdyana::Refusal;
+use samples::Random;
+use std::fmt;
+
+/// How many frames, and how many headers, each file of tests compares unless it is told otherwise.
+const FRAMES: u64 = 300_000;
+const HEADERS: u64 = 20_000;
+
+pub fn frames() -> u64 {
+    setting("GVZ_FRAMES", FRAMES)
+}
+
+pub fn headers() -> u64 {
+    setting("GVZ_HEADERS", HEADERS)
+}
+
+fn setting(name: &str, default: u64) -> u64 {
+    std::env::var(name).map_or(default, |text| {
+        text.parse()
+            .unwrap_or_else(|_| panic!("{name} is not a number: {text}"))
+    })
+}
+
+/// Which case of a sort, and the seed that makes it.
+#[derive(Clone, Copy)]
+pub struct Case {
+    index: u64,
+    seed: u64,
+}
+
+impl fmt::Display for Case {
+    fn fmt(&self, f: &mut fmt::Formatter<'_>) -> fmt::Result {
+        write!(f, "case {}, seed {}", self.index, self.seed)
+    }
+}
+
+/// Calls `test` with the random numbers of each of `count` seeds of a sort.
+pub fn for_each_seed(sort: u64, count: u64, mut test: impl FnMut(&mut Random, Case)) {
+    let first = setting("GVZ_SEED", 1) + (sort << 40);
+    for index in 0..count {
+        let seed = first + index;
+        test(&mut Random::new(seed), Case { index, seed });
+    }
+}
+
+pub fn hex(bytes: &[u8]) -> String {
+    bytes.iter().map(|b| format!("{b:02x}")).collect()
+}
+
+/// A buffer's length: most often the right one, else one near it or far from it.
+pub fn length(right: usize, random: &mut Random) -> usize {
+    match random.below(20) {
+        0 => random.below(2 * right + 2),
+        1 => random.pick(&[0, right - 1, right + 1]),
+        _ => right,
+    }
+}
+
+/// Any numbers, to lie in a buffer beforehand.
+pub fn numbers(count: usize, random: &mut Random) -> Vec<u64> {
+    (0..count).map(|_| random.number()).collect()
+}
+
+/// The refusal's number, or 0.
+pub fn number<T>(answer: Result<T, Refusal>) -> u8 {
+    answer.err().map_or(0, Refusal::number)
+}

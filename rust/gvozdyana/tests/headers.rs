@@ -1,0 +1,147 @@
+//! Headers read, written, laid into and taken out of, by the proved version and by the plain one. What a header was made with is compared too.
+mod common;
+use common::{for_each_seed, headers, hex, length, numbers, Case};
+use gvozdyana::calls;
+use gvozdyana::header::{read, write, Header};
+use reference::header as plain;
+use samples::frames::frame;
+use samples::headers::{header, legal_record, record};
+
+/// Which numbers occurred, and how often.
+type Seen = [u32; 16];
+
+fn expect_seen(seen: &Seen, expected: &[usize]) {
+    println!("accepted and refused, by number: {seen:?}");
+    for number in 0..16 {
+        let occurs = expected.contains(&number);
+        assert_eq!(seen[number] > 0, occurs, "{number}: {seen:?}");
+    }
+}
+
+#[test]
+fn headers_of_all_sorts_read() {
+    let mut seen = Seen::default();
+    for_each_seed(41, headers(), |random, case| {
+        let sample = header(random);
+        let record_len = length(145, random);
+        let before = numbers(record_len, random);
+        let mut left = before.clone();
+        let status = calls::header_read(&sample.bytes, &mut left);
+        let answer = match record_len {
+            145 => plain::read(&sample.bytes),
+            _ => Err(1),
+        };
+        let number = answer.err().unwrap_or(0);
+        let what = || {
+            format!(
+                "header {}, record of {record_len}, {case}",
+                hex(&sample.bytes)
+            )
+        };
+        assert_eq!(status, u32::from(number), "{}", what());
+        assert_eq!(
+            left,
+            answer.map_or(before, |record| record.to_vec()),
+            "{}",
+            what()
+        );
+        if let (Some(expected), 145) = (sample.expected, record_len) {
+            assert_eq!(number, expected, "{}", what());
+        }
+        seen[usize::from(number)] += 1;
+    });
+    expect_seen(&seen, &[0, 1, 12, 13, 14, 15]);
+}
+
+#[test]
+fn records_of_all_sorts_written() {
+    let mut seen = Seen::default();
+    for_each_seed(42, headers(), |random, case| {
+        let values = record(random);
+        let (record_len, header_len) = (length(145, random), length(188, random));
+        let mut given = values.to_vec();
+        given.resize(300, 0);
+        let before = random.bytes(header_len);
+        let (mut left, mut expected) = (before.clone(), before);
+        let status = calls::header_write(&given[..record_len], &mut left);
+        let number = match record_len {
+            145 => plain::write(&values, &mut expected),
+            _ => 1,
+        };
+        let what = || format!("record {values:?} of {record_len}, header of {header_len}, {case}");
+        assert_eq!(status, u32::from(number), "{}", what());
+        assert_eq!(left, expected, "{}", what());
+        seen[usize::from(number)] += 1;
+    });
+    expect_seen(&seen, &[0, 1, 10, 12, 14, 15]);
+}
+
+/// A step that changes a header in place leaves what the plain version leaves; then the refusal's number.
+fn changed(
+    before: &[u8],
+    proved: impl Fn(&mut [u8]) -> u32,
+    plain: impl Fn(&mut [u8]) -> u8,
+    case: Case,
+) -> usize {
+    let (mut left, mut expected) = (before.to_vec(), before.to_vec());
+    let (status, number) = (proved(&mut left), plain(&mut expected));
+    let what = || format!("header {}, {case}", hex(before));
+    assert_eq!(status, u32::from(number), "{}", what());
+    assert_eq!(hex(&left), hex(&expected), "{}", what());
+    usize::from(number)
+}
+
+#[test]
+fn frames_laid_in_and_taken_out() {
+    let (mut laid, mut taken) = (Seen::default(), Seen::default());
+    for_each_seed(43, headers(), |random, case| {
+        let before = match random.below(2) {
+            0 => header(random).bytes,
+            _ => samples::headers::faulty(&[], random).bytes,
+        };
+        let frame = frame(random).bytes;
+        laid[changed(
+            &before,
+            |h| calls::lay_in(h, &frame),
+            |h| plain::lay_in(h, &frame),
+            case,
+        )] += 1;
+        taken[changed(&before, calls::take_out, plain::take_out, case)] += 1;
+    });
+    expect_seen(&laid, &[0, 1, 2, 3, 4, 5, 6, 7, 8, 9, 12, 13, 14, 15]);
+    expect_seen(&taken, &[0, 1, 12, 13, 14, 15]);
+}
+
+#[test]
+fn legal_headers_come_back() {
+    for_each_seed(44, headers(), |random, case| {
+        let values = legal_record(random);
+        let header = Header::from(values);
+        assert_eq!(<[u64; 145]>::from(header), values);
+        let bytes =
+            write(&header).unwrap_or_else(|refusal| panic!("{refusal}: {header:?}, {case}"));
+        assert_eq!(read(&bytes), Ok(header), "{case}");
+    });
+}
+
+#[test]
+fn the_order_of_the_fields() {
+    let counted = |first: u64| move |i: usize| first + i as u64;
+    let header = Header {
+        packet: 0,
+        sync: 1,
+        change: 2,
+        method: 3,
+        form: 4,
+        valid: std::array::from_fn(counted(5)),
+        streams: std::array::from_fn(|i| 20 + 2 * i as u64),
+        networks: std::array::from_fn(|i| 21 + 2 * i as u64),
+        states: std::array::from_fn(counted(50)),
+        carried: 65,
+        emergency: 66,
+        slots: std::array::from_fn(counted(67)),
+        ac: std::array::from_fn(counted(119)),
+    };
+    assert_eq!(<[u64; 145]>::from(header), std::array::from_fn(counted(0)));
+    assert_eq!(Header::from(<[u64; 145]>::from(header)), header);
+}

@@ -1,0 +1,195 @@
+//! Frames of all sorts: legal, damaged, with one fault, with several, noise, and of other lengths.
+use crate::records::{legal_record, Body, BODIES};
+use crate::Random;
+use reference::code::{encode, frame_of};
+use reference::crc::crc10;
+use reference::frame::{write, Record, IDENTIFICATION};
+use reference::{bit, flip_bit, get, put, FRAME_BYTES};
+
+/// What the frame's making says of its reading, without any repair.
+#[derive(Clone, Copy, Debug, PartialEq, Eq)]
+pub enum Expected {
+    /// This record was sent, and so many places were hit, eight at most.
+    Read(Record, u8),
+    Refused(u8),
+    /// More than nine places hit, or noise.
+    Open,
+}
+
+pub struct Sample {
+    pub bytes: Vec<u8>,
+    pub expected: Expected,
+}
+
+/// A frame of any sort.
+pub fn frame(random: &mut Random) -> Sample {
+    match random.below(12) {
+        0 => open(noise(false, random)),
+        1 => open(noise(true, random)),
+        2 => open(random_message(random)),
+        3 => open(random_details(random)),
+        4 => faulty(&[1], random),
+        5 => faulty(&[4], random),
+        6..=8 => faulty(&[], random),
+        9 | 10 => {
+            let fault = 1 + random.below(9) as u8;
+            faulty(&[fault], random)
+        }
+        _ => {
+            let faults: Vec<u8> = (1..=9).filter(|_| random.below(3) == 0).collect();
+            faulty(&faults, random)
+        }
+    }
+}
+
+fn open(bytes: [u8; FRAME_BYTES]) -> Sample {
+    Sample {
+        bytes: bytes.to_vec(),
+        expected: Expected::Open,
+    }
+}
+
+/// A frame that is accepted, or refused with the first of these faults, which are refusals' numbers.
+pub fn faulty(faults: &[u8], random: &mut Random) -> Sample {
+    let has = |fault: u8| faults.contains(&fault);
+    let body = match (has(8), has(9)) {
+        (_, true) => Body::Place,
+        (true, _) => random.pick(&BODIES[1..]),
+        _ => random.pick(&BODIES),
+    };
+    let record = legal_record(body, random);
+    let mut frame = written(&record);
+    if has(6) {
+        put(&mut frame, 21..=23, 4 + random.up_to(2));
+    }
+    if has(7) {
+        let wrong = match record[IDENTIFICATION] {
+            7 => random.up_to(14),
+            _ => (1 + random.up_to(2)) << 2 | get(&frame, 19..=20),
+        };
+        put(&mut frame, 17..=20, wrong);
+    }
+    if has(8) {
+        clear_fixed(body, &mut frame, random);
+    }
+    if has(9) {
+        exceed_limits(&mut frame, random);
+    }
+    let crc_fault = if has(5) { 1 + random.up_to(1022) } else { 0 };
+    let mut frame = sealed(frame, crc_fault);
+    let hits = match (has(4), random.below(2)) {
+        (true, _) => 9 + random.below(6),
+        (_, 0) => 0,
+        _ => random.below(9),
+    };
+    hit(&mut frame, hits, random);
+    if has(3) {
+        let count = 1 + random.below(15);
+        let places: [usize; 16] = std::array::from_fn(|i| 1 + i);
+        for k in random.choose(count, &places) {
+            flip_bit(&mut frame, k);
+        }
+    }
+    if has(2) {
+        put(&mut frame, 204..=207, 1 + random.up_to(14));
+    }
+    let mut bytes = frame.to_vec();
+    if has(1) {
+        let length = random.below(60);
+        bytes.resize(length + usize::from(length == FRAME_BYTES), 0);
+    }
+    let expected = match faults.iter().min() {
+        None => Expected::Read(record, hits as u8),
+        Some(4) if hits > 9 => Expected::Open,
+        Some(&number) => Expected::Refused(number),
+    };
+    Sample { bytes, expected }
+}
+
+/// The frame of a legal record.
+pub fn written(record: &Record) -> [u8; FRAME_BYTES] {
+    let mut frame = [0; FRAME_BYTES];
+    assert_eq!(write(record, &mut frame), 0, "a legal record");
+    frame
+}
+
+/// Turns over this many of B17 to B203.
+pub fn hit(frame: &mut [u8], count: usize, random: &mut Random) {
+    let places: [usize; 187] = std::array::from_fn(|i| 17 + i);
+    for k in random.choose(count, &places) {
+        flip_bit(frame, k);
+    }
+}
+
+/// The frame with the CRC of its bits, with these of it turned over, and then the parity of them all.
+fn sealed(mut frame: [u8; FRAME_BYTES], crc_fault: u64) -> [u8; FRAME_BYTES] {
+    let bits: Vec<bool> = (21..=111).map(|k| bit(&frame, k)).collect();
+    put(&mut frame, 112..=121, u64::from(crc10(&bits)) ^ crc_fault);
+    let word = encode(&std::array::from_fn(|i| bit(&frame, 17 + i)));
+    let mut whole = frame_of(&word);
+    put(&mut whole, 0..=16, get(&frame, 0..=16));
+    whole
+}
+
+/// Some of the details' bits that the body fixes at 1 become 0.
+fn clear_fixed(body: Body, frame: &mut [u8], random: &mut Random) {
+    let fixed: Vec<usize> = match body {
+        Body::Areas => return,
+        Body::Place => vec![111],
+        Body::Cancellation => (68..=111).collect(),
+        Body::NoInformation => (24..=55).chain(67..=111).collect(),
+    };
+    let count = 1 + random.below(fixed.len().min(3));
+    for k in random.choose(count, &fixed) {
+        put(frame, k..=k, 0);
+    }
+}
+
+/// The latitude, the longitude or both of a place are over their limits.
+fn exceed_limits(frame: &mut [u8], random: &mut Random) {
+    let which = random.below(3);
+    if which != 0 {
+        put(frame, 69..=78, 901 + random.up_to(1023 - 901));
+    }
+    if which != 1 {
+        put(frame, 80..=90, 1801 + random.up_to(2047 - 1801));
+    }
+}
+
+/// Any bytes, if asked with a pattern and the filler.
+fn noise(framed: bool, random: &mut Random) -> [u8; FRAME_BYTES] {
+    let mut frame = std::array::from_fn(|_| random.number() as u8);
+    if framed {
+        let legal = written(&legal_record(Body::Areas, random));
+        put(&mut frame, 0..=16, get(&legal, 0..=16));
+        put(&mut frame, 204..=207, 0);
+    }
+    frame
+}
+
+/// A code word of any message, hit in up to 14 places.
+fn random_message(random: &mut Random) -> [u8; FRAME_BYTES] {
+    let mut frame = noise(true, random);
+    let word = encode(&std::array::from_fn(|i| bit(&frame, 17 + i)));
+    let head = get(&frame, 0..=16);
+    frame = frame_of(&word);
+    put(&mut frame, 0..=16, head);
+    let count = random.below(15);
+    hit(&mut frame, count, random);
+    frame
+}
+
+/// Any details behind a good CRC, with start and end as most identifications ask.
+fn random_details(random: &mut Random) -> [u8; FRAME_BYTES] {
+    let mut frame = noise(true, random);
+    if random.below(8) != 0 {
+        put(&mut frame, 17..=18, 0);
+    }
+    if random.below(2) == 0 {
+        put(&mut frame, 111..=111, 1);
+    }
+    let mut frame = sealed(frame, 0);
+    let count = random.below(9);
+    hit(&mut frame, count, random);
+    frame
+}
