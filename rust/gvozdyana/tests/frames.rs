@@ -4,9 +4,9 @@ mod common;
 use common::{for_each_seed, frames, hex, length, numbers, Case};
 use gvozdyana::frame::{read, write, Record};
 use gvozdyana::{calls, repair, Refusal};
-use reference::frame as plain;
-use samples::frames::{faulty, frame, Expected, Sample};
-use samples::records::{legal_record, record, BODIES};
+use reference::{flip_bit, frame as plain};
+use samples::frames::{faulty, frame, open, sealed, written, Expected, Sample};
+use samples::records::{legal_record, record, BODIES, WIDTHS};
 
 /// The proved reader's status and buffer are the plain version's, and so is the repair; then the refusal's number.
 fn compared(sample: &Sample, record_len: usize, before: &[u64], case: Case) -> u8 {
@@ -72,31 +72,67 @@ fn legal_frames_hit_in_up_to_14_places() {
 }
 
 #[test]
+fn every_bit_turned_over() {
+    for_each_seed(15, 20, |random, case| {
+        for body in BODIES {
+            let legal = written(&legal_record(body, random));
+            for k in 0..208 {
+                let mut frame = legal;
+                flip_bit(&mut frame, k);
+                compared(&open(frame), 18, &[7; 18], case);
+                // With CRC and parity made again, which leaves the filler 0.
+                compared(&open(sealed(frame, 0)), 18, &[7; 18], case);
+            }
+        }
+    });
+}
+
+/// The proved writer's status and buffer are the plain version's; then its number.
+fn frame_write(values: &[u64], before: &[u8], case: Case) -> u8 {
+    let (mut left, mut expected) = (before.to_vec(), before.to_vec());
+    let status = calls::frame_write(values, &mut left);
+    let number = match values.try_into() {
+        Ok(record) => plain::write(record, &mut expected),
+        Err(_) => 1,
+    };
+    let what = || format!("record {values:?}, frame of {}, {case}", before.len());
+    assert_eq!(status, u32::from(number), "{}", what());
+    assert_eq!(hex(&left), hex(&expected), "{}", what());
+    number
+}
+
+#[test]
 fn records_of_all_sorts_written() {
     let mut seen = [0; 16];
     for_each_seed(13, frames() / 2, |random, case| {
-        let values = record(random);
-        let record_len = length(18, random);
+        let mut values = record(random).to_vec();
+        values.resize(length(18, random), 0);
         let frame_len = length(26, random);
-        let mut given = values.to_vec();
-        given.resize(40, 0);
-        let before = random.bytes(60);
-        let (mut left, mut expected) = (before.clone(), before);
-        let status = calls::frame_write(&given[..record_len], &mut left[..frame_len]);
-        let number = match record_len {
-            18 => plain::write(&values, &mut expected[..frame_len]),
-            _ => 1,
-        };
-        let what = || format!("record {values:?} of {record_len}, frame of {frame_len}, {case}");
-        assert_eq!(status, u32::from(number), "{}", what());
-        assert_eq!(left, expected, "{}", what());
-        seen[usize::from(number)] += 1;
+        let before = random.bytes(frame_len);
+        seen[usize::from(frame_write(&values, &before, case))] += 1;
     });
-    println!("written and refused 1, 6, 9, 10: {seen:?}");
+    println!("written and refused, by number: {seen:?}");
     for number in 0..16 {
         let occurs = [0, 1, 6, 9, 10].contains(&number);
         assert_eq!(seen[number] > 0, occurs, "{number}: {seen:?}");
     }
+}
+
+#[test]
+fn every_field_at_its_limits() {
+    for_each_seed(16, 20, |random, case| {
+        for body in BODIES {
+            let legal = legal_record(body, random);
+            for field in 0..18 {
+                let past = 1 << WIDTHS[field];
+                for value in [0, 1, 2, 900, 901, 1800, 1801, past - 1, past, u64::MAX] {
+                    let mut values = legal;
+                    values[field] = value;
+                    frame_write(&values, &[0xA5; 26], case);
+                }
+            }
+        }
+    });
 }
 
 #[test]

@@ -3,9 +3,10 @@ mod common;
 use common::{for_each_seed, headers, hex, length, numbers, Case};
 use gvozdyana::calls;
 use gvozdyana::header::{read, write, Header};
+use reference::flip_bit;
 use reference::header as plain;
 use samples::frames::frame;
-use samples::headers::{header, legal_record, record};
+use samples::headers::{faulty, header, legal_record, record, seal};
 
 /// Which numbers occurred, and how often.
 type Seen = [u32; 16];
@@ -18,6 +19,43 @@ fn expect_seen(seen: &Seen, expected: &[usize]) {
     }
 }
 
+/// The proved reader's status and buffer of these numbers are the plain version's; then its number.
+fn header_read(header: &[u8], before: &[u64], what: impl Fn() -> String) -> u8 {
+    let mut left = before.to_vec();
+    let status = calls::header_read(header, &mut left);
+    let answer = match before.len() {
+        145 => plain::read(header),
+        _ => Err(1),
+    };
+    let number = answer.err().unwrap_or(0);
+    let what = || {
+        format!(
+            "header {}, record of {}, {}",
+            hex(header),
+            before.len(),
+            what()
+        )
+    };
+    assert_eq!(status, u32::from(number), "{}", what());
+    let expected = answer.map_or(before.to_vec(), |record| record.to_vec());
+    assert_eq!(left, expected, "{}", what());
+    number
+}
+
+/// The same for the proved writer, with these values and a buffer of these bytes.
+fn header_write(values: &[u64], before: &[u8], what: impl Fn() -> String) -> u8 {
+    let (mut left, mut expected) = (before.to_vec(), before.to_vec());
+    let status = calls::header_write(values, &mut left);
+    let number = match values.try_into() {
+        Ok(record) => plain::write(record, &mut expected),
+        Err(_) => 1,
+    };
+    let what = || format!("record {values:?}, header of {}, {}", before.len(), what());
+    assert_eq!(status, u32::from(number), "{}", what());
+    assert_eq!(hex(&left), hex(&expected), "{}", what());
+    number
+}
+
 #[test]
 fn headers_of_all_sorts_read() {
     let mut seen = Seen::default();
@@ -25,28 +63,9 @@ fn headers_of_all_sorts_read() {
         let sample = header(random);
         let record_len = length(145, random);
         let before = numbers(record_len, random);
-        let mut left = before.clone();
-        let status = calls::header_read(&sample.bytes, &mut left);
-        let answer = match record_len {
-            145 => plain::read(&sample.bytes),
-            _ => Err(1),
-        };
-        let number = answer.err().unwrap_or(0);
-        let what = || {
-            format!(
-                "header {}, record of {record_len}, {case}",
-                hex(&sample.bytes)
-            )
-        };
-        assert_eq!(status, u32::from(number), "{}", what());
-        assert_eq!(
-            left,
-            answer.map_or(before, |record| record.to_vec()),
-            "{}",
-            what()
-        );
+        let number = header_read(&sample.bytes, &before, || case.to_string());
         if let (Some(expected), 145) = (sample.expected, record_len) {
-            assert_eq!(number, expected, "{}", what());
+            assert_eq!(number, expected, "header {}, {case}", hex(&sample.bytes));
         }
         seen[usize::from(number)] += 1;
     });
@@ -54,26 +73,48 @@ fn headers_of_all_sorts_read() {
 }
 
 #[test]
+fn every_bit_turned_over() {
+    for_each_seed(45, 2, |random, case| {
+        let legal = faulty(&[], random).bytes;
+        for k in 0..1504 {
+            let mut header = legal.clone();
+            flip_bit(&mut header, k);
+            header_read(&header, &[7; 145], || format!("bit {k}, {case}"));
+            seal(&mut header);
+            let what = || format!("bit {k} with the CRC made again, {case}");
+            header_read(&header, &[7; 145], what);
+        }
+    });
+}
+
+#[test]
 fn records_of_all_sorts_written() {
     let mut seen = Seen::default();
     for_each_seed(42, headers(), |random, case| {
-        let values = record(random);
-        let (record_len, header_len) = (length(145, random), length(188, random));
-        let mut given = values.to_vec();
-        given.resize(300, 0);
+        let mut values = record(random).to_vec();
+        values.resize(length(145, random), 0);
+        let header_len = length(188, random);
         let before = random.bytes(header_len);
-        let (mut left, mut expected) = (before.clone(), before);
-        let status = calls::header_write(&given[..record_len], &mut left);
-        let number = match record_len {
-            145 => plain::write(&values, &mut expected),
-            _ => 1,
-        };
-        let what = || format!("record {values:?} of {record_len}, header of {header_len}, {case}");
-        assert_eq!(status, u32::from(number), "{}", what());
-        assert_eq!(left, expected, "{}", what());
+        let number = header_write(&values, &before, || case.to_string());
         seen[usize::from(number)] += 1;
     });
     expect_seen(&seen, &[0, 1, 10, 12, 14, 15]);
+}
+
+#[test]
+fn every_field_at_its_limits() {
+    for_each_seed(46, 2, |random, case| {
+        let legal = legal_record(random);
+        for field in 0..145 {
+            let past = 1 << plain::width(field);
+            for value in [0, 1, 2, 3, past - 1, past, past + 1, u64::MAX] {
+                let mut record = legal;
+                record[field] = value;
+                let what = || format!("field {field}, {case}");
+                header_write(&record, &[0xA5; 188], what);
+            }
+        }
+    });
 }
 
 /// A step that changes a header in place leaves what the plain version leaves; then the refusal's number.
@@ -97,7 +138,7 @@ fn frames_laid_in_and_taken_out() {
     for_each_seed(43, headers(), |random, case| {
         let before = match random.below(2) {
             0 => header(random).bytes,
-            _ => samples::headers::faulty(&[], random).bytes,
+            _ => faulty(&[], random).bytes,
         };
         let frame = frame(random).bytes;
         laid[changed(

@@ -42,7 +42,8 @@ pub fn frame(random: &mut Random) -> Sample {
     }
 }
 
-fn open(bytes: [u8; FRAME_BYTES]) -> Sample {
+/// Nothing is said of how it is read.
+pub fn open(bytes: [u8; FRAME_BYTES]) -> Sample {
     Sample {
         bytes: bytes.to_vec(),
         expected: Expected::Open,
@@ -122,7 +123,7 @@ pub fn hit(frame: &mut [u8], count: usize, random: &mut Random) {
 }
 
 /// The frame with the CRC of its bits, with these of it turned over, and then the parity of them all.
-fn sealed(mut frame: [u8; FRAME_BYTES], crc_fault: u64) -> [u8; FRAME_BYTES] {
+pub fn sealed(mut frame: [u8; FRAME_BYTES], crc_fault: u64) -> [u8; FRAME_BYTES] {
     let bits: Vec<bool> = (21..=111).map(|k| bit(&frame, k)).collect();
     put(&mut frame, 112..=121, u64::from(crc10(&bits)) ^ crc_fault);
     let word = encode(&std::array::from_fn(|i| bit(&frame, 17 + i)));

@@ -101,7 +101,7 @@ pub fn faulty(faults: &[u8], random: &mut Random) -> Sample {
 fn break_bits(header: &mut [u8], random: &mut Random) {
     match random.below(3) {
         0 => flip_bit(header, 71),
-        1 => flip_bit(header, 996 + random.below(476)),
+        1 => flip_bit(header, 996 + random.up_to(475) as usize),
         _ => {
             let k = 552 + 2 * random.below(15);
             header[k / 8] |= 0xC0 >> (k % 8);
@@ -109,7 +109,8 @@ fn break_bits(header: &mut [u8], random: &mut Random) {
     }
 }
 
-fn seal(header: &mut [u8]) {
+/// Makes the CRC again.
+pub fn seal(header: &mut [u8]) {
     let crc = crc32(&header[4..184]);
     header[184..].copy_from_slice(&crc.to_be_bytes());
 }

@@ -3,7 +3,7 @@ use crate::Random;
 use reference::frame::*;
 
 /// How many bits each field has where it is free.
-const WIDTHS: [u32; 18] = [1, 1, 3, 2, 31, 1, 56, 1, 1, 9, 1, 1, 10, 1, 11, 10, 10, 11];
+pub const WIDTHS: [u32; 18] = [1, 1, 3, 2, 31, 1, 56, 1, 1, 9, 1, 1, 10, 1, 11, 10, 10, 11];
 
 /// What a frame's details hold.
 #[derive(Clone, Copy, Debug, PartialEq, Eq)]
