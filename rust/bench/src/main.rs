@@ -1,21 +1,23 @@
-//! Times the proved repair and the plain one on the same frames, in one run: nanoseconds per call, and how many times as fast the proved
-//! one is. The only argument is the number of frames of each sort.
-use samples::{sent_and_hit, Random};
+//! Times the proved version and the plain one on the same inputs, in one run: nanoseconds per call, and how many times as fast the proved
+//! one is. The only argument is the number of frames of each sort; of headers there are a tenth.
+use gvozdyana::header::Header;
+use gvozdyana::{frame, header, place};
+use reference as plain;
+use samples::records::{Body, BODIES};
+use samples::{doubles, frames, headers, records, sent_and_hit, Random};
 use std::hint::black_box;
 use std::time::Instant;
 
-/// Frames timed at a stretch. The two versions take turns, and the middle stretch of each counts, so that what else the machine does
+/// Calls timed at a stretch. The two versions take turns, and the middle stretch of each counts, so that what else the machine does
 /// falls on neither.
 const STRETCH: usize = 500;
 
-type Frame = [u8; 26];
-
-fn nanoseconds_per_call(frames: &[Frame], call: impl Fn(&Frame)) -> f64 {
+fn nanoseconds_per_call<T>(inputs: &[T], call: &impl Fn(&T)) -> f64 {
     let start = Instant::now();
-    for frame in frames {
-        call(black_box(frame));
+    for input in inputs {
+        call(black_box(input));
     }
-    start.elapsed().as_nanos() as f64 / frames.len() as f64
+    start.elapsed().as_nanos() as f64 / inputs.len() as f64
 }
 
 fn middle(mut times: Vec<f64>) -> f64 {
@@ -23,38 +25,197 @@ fn middle(mut times: Vec<f64>) -> f64 {
     times[times.len() / 2]
 }
 
+/// Prints the row of a function on inputs that are made from the row's name.
+fn row<T>(
+    name: &str,
+    count: usize,
+    make: impl Fn(&mut Random) -> T,
+    proved: impl Fn(&T),
+    plain: impl Fn(&T),
+) {
+    let mut random = Random::new(name.bytes().map(u64::from).sum());
+    let inputs: Vec<T> = (0..count.max(STRETCH)).map(|_| make(&mut random)).collect();
+    let (mut proved_times, mut plain_times) = (Vec::new(), Vec::new());
+    for stretch in inputs.chunks_exact(STRETCH) {
+        proved_times.push(nanoseconds_per_call(stretch, &proved));
+        plain_times.push(nanoseconds_per_call(stretch, &plain));
+    }
+    let (proved, plain) = (middle(proved_times), middle(plain_times));
+    println!(
+        "{name:<28} {proved:>12.0} {plain:>12.0} {:>8.2}",
+        plain / proved
+    );
+}
+
+/// A legal frame of any body, hit in so many places.
+fn legal_frame(hits: usize, random: &mut Random) -> [u8; 26] {
+    let mut frame = frames::written(&records::legal_record(random.pick(&BODIES), random));
+    frames::hit(&mut frame, hits, random);
+    frame
+}
+
+fn repair_rows(count: usize) {
+    for (name, hits) in [
+        ("repair, no hit", 0),
+        ("repair, 1 hit", 1),
+        ("repair, 4 hits", 4),
+        ("repair, 8 hits", 8),
+        ("repair, beyond (9)", 9),
+    ] {
+        row(
+            name,
+            count,
+            |random| sent_and_hit(hits, random).1,
+            |frame| {
+                black_box(gvozdyana::repair(frame)).ok();
+            },
+            |frame| {
+                black_box(plain::repair(frame)).ok();
+            },
+        );
+    }
+}
+
+fn frame_rows(count: usize) {
+    for (name, hits) in [("frame read, no hit", 0), ("frame read, 4 hits", 4)] {
+        row(
+            name,
+            count,
+            |random| legal_frame(hits, random),
+            |bytes| {
+                black_box(frame::read(bytes)).ok();
+            },
+            |bytes| {
+                black_box(plain::frame::read(bytes)).ok();
+            },
+        );
+    }
+    row(
+        "frame write",
+        count,
+        |random| records::legal_record(random.pick(&BODIES), random),
+        |&record| {
+            black_box(frame::write(&record.into())).ok();
+        },
+        |record| {
+            let mut buffer = [0; 26];
+            plain::frame::write(record, &mut buffer);
+            black_box(buffer);
+        },
+    );
+}
+
+fn place_rows(count: usize) {
+    row(
+        "report",
+        count,
+        |random| records::legal_record(Body::Place, random),
+        |&record| {
+            black_box(place::report(&record.into())).ok();
+        },
+        |record| {
+            black_box(plain::place::report(record)).ok();
+        },
+    );
+    row(
+        "desk",
+        count,
+        |random| {
+            [
+                doubles::double(random),
+                doubles::double(random),
+                doubles::depth(random),
+            ]
+        },
+        |&[latitude, longitude, depth]| {
+            let place = place::Place {
+                latitude,
+                longitude,
+                depth,
+            };
+            black_box(place::fields(place)).ok();
+        },
+        |&[latitude, longitude, depth]| {
+            let place = plain::place::Place {
+                latitude,
+                longitude,
+                depth,
+            };
+            black_box(plain::place::fields_of(place)).ok();
+        },
+    );
+}
+
+fn header_rows(count: usize) {
+    let legal = |random: &mut Random| headers::faulty(&[], random).bytes;
+    row(
+        "header read",
+        count,
+        legal,
+        |bytes| {
+            black_box(header::read(bytes)).ok();
+        },
+        |bytes| {
+            black_box(plain::header::read(bytes)).ok();
+        },
+    );
+    row(
+        "header write",
+        count,
+        headers::legal_record,
+        |&record| {
+            black_box(header::write(&Header::from(record))).ok();
+        },
+        |record| {
+            let mut buffer = [0; 188];
+            plain::header::write(record, &mut buffer);
+            black_box(buffer);
+        },
+    );
+    for (name, hits) in [("lay in, no hit", 0), ("lay in, 4 hits", 4)] {
+        row(
+            name,
+            count,
+            |random| (legal(random), legal_frame(hits, random)),
+            |(bytes, frame)| {
+                let mut bytes = bytes.clone();
+                header::lay_in(&mut bytes, frame).ok();
+                black_box(bytes);
+            },
+            |(bytes, frame)| {
+                let mut bytes = bytes.clone();
+                plain::header::lay_in(&mut bytes, frame);
+                black_box(bytes);
+            },
+        );
+    }
+    row(
+        "take out",
+        count,
+        legal,
+        |bytes| {
+            let mut bytes = bytes.clone();
+            header::take_out(&mut bytes).ok();
+            black_box(bytes);
+        },
+        |bytes| {
+            let mut bytes = bytes.clone();
+            plain::header::take_out(&mut bytes);
+            black_box(bytes);
+        },
+    );
+}
+
 fn main() {
     let count: usize = std::env::args().nth(1).map_or(100_000, |n| {
         n.parse().expect("the number of frames of each sort")
     });
     println!(
-        "{:<22} {:>12} {:>12} {:>8}",
+        "{:<28} {:>12} {:>12} {:>8}",
         "ns per call", "proved", "plain", "ratio"
     );
-    for (name, hits) in [
-        ("no hit", 0),
-        ("1 hit", 1),
-        ("4 hits", 4),
-        ("8 hits", 8),
-        ("beyond repair (9)", 9),
-    ] {
-        let mut random = Random::new(hits as u64);
-        let frames: Vec<Frame> = (0..count.max(STRETCH))
-            .map(|_| sent_and_hit(hits, &mut random).1)
-            .collect();
-        let (mut proved, mut plain) = (Vec::new(), Vec::new());
-        for stretch in frames.chunks_exact(STRETCH) {
-            proved.push(nanoseconds_per_call(stretch, |frame| {
-                black_box(gvozdyana::repair(frame)).ok();
-            }));
-            plain.push(nanoseconds_per_call(stretch, |frame| {
-                black_box(reference::repair(frame)).ok();
-            }));
-        }
-        let (proved, plain) = (middle(proved), middle(plain));
-        println!(
-            "{name:<22} {proved:>12.0} {plain:>12.0} {:>8.2}",
-            plain / proved
-        );
-    }
+    repair_rows(count);
+    frame_rows(count);
+    place_rows(count);
+    header_rows(count / 10);
 }
