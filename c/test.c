@@ -104,7 +104,8 @@ static void test_repair(void)
 static const uint64_t place_record[GVZ_RECORD_VALUES] = {1, 0, 2, 1, 5, 1, 0, 1, 0, 300, 0, 1, 356, 1, 1397, 40, 900, 0};
 
 /* Of 20 values that hold 7 the first 18 are left as `record`, if it is not NULL, and the rest as they were. */
-static void expect_frame_read(const char *what, const char *digits, size_t frame_len, size_t record_len, uint32_t status, const uint64_t *record)
+static void expect_frame_read(const char *what, const char *digits, size_t frame_len, size_t record_len, uint32_t status,
+    const uint64_t *record)
 {
     uint64_t left[20], expected[20];
     for (int i = 0; i < 20; i++) {
@@ -142,7 +143,8 @@ static void test_frame_read(void)
 }
 
 /* place_record with one field changed, written into 28 bytes that hold 0xA5. */
-static void expect_frame_write(const char *what, int field, uint64_t value, size_t record_len, size_t frame_len, uint32_t status, const char *digits)
+static void expect_frame_write(const char *what, int field, uint64_t value, size_t record_len, size_t frame_len, uint32_t status,
+    const char *digits)
 {
     uint64_t record[20] = {0};
     uint8_t left[28], expected[28];
@@ -172,7 +174,8 @@ static void test_frame_write(void)
 /* ---- The place in degrees */
 
 /* Of 4 doubles that hold 0.5 the first 3 are left as `place`, if it is not NULL, and the rest as they were. */
-static void expect_report(const char *what, const uint64_t *record, size_t record_len, size_t place_len, uint32_t status, const double *place)
+static void expect_report(const char *what, const uint64_t *record, size_t record_len, size_t place_len, uint32_t status,
+    const double *place)
 {
     double left[4] = {0.5, 0.5, 0.5, 0.5}, expected[4] = {0.5, 0.5, 0.5, 0.5};
     if (place != NULL) {
@@ -217,7 +220,8 @@ static double double_of(uint64_t bits)
     return x;
 }
 
-static void expect_desk(const char *what, double latitude, double longitude, double depth, size_t fields_len, uint32_t status, const uint64_t *fields)
+static void expect_desk(const char *what, double latitude, double longitude, double depth, size_t fields_len, uint32_t status,
+    const uint64_t *fields)
 {
     uint64_t left[6] = {7, 7, 7, 7, 7, 7}, expected[6] = {7, 7, 7, 7, 7, 7};
     if (fields != NULL) {
@@ -245,7 +249,8 @@ static void test_desk(void)
 
 /* ---- Following the update number, and two tuners */
 
-static void expect_follow(const char *what, uint32_t state, const char *digits, size_t frame_len, uint32_t number, uint32_t event, uint32_t next)
+static void expect_follow(const char *what, uint32_t state, const char *digits, size_t frame_len, uint32_t number, uint32_t event,
+    uint32_t next)
 {
     uint32_t status = gvz_follow(state, frame_of(digits), frame_len);
     expect(what, status == number + (event << 8) + (next << 16) && GVZ_NUMBER(status) == number && GVZ_EVENT(status) == event
@@ -268,8 +273,8 @@ static void test_follow(void)
     expect_follow("a large state", 0xFFFFFFFFu, NINE_HITS, 26, GVZ_BEYOND_REPAIR, GVZ_EVENT_REFUSED, GVZ_STATE_QUIET);
 }
 
-static void expect_capture(const char *what, const uint8_t *main_capture, size_t main_len, const uint8_t *spare_capture, size_t spare_len, uint64_t n, uint32_t main_number,
-    uint32_t spare_number, uint32_t source)
+static void expect_capture(const char *what, const uint8_t *main_capture, size_t main_len, const uint8_t *spare_capture, size_t spare_len,
+    uint64_t n, uint32_t main_number, uint32_t spare_number, uint32_t source)
 {
     uint32_t numbers = gvz_capture_numbers(main_capture, main_len, spare_capture, spare_len, n);
     expect(what, GVZ_MAIN_NUMBER(numbers) == main_number && GVZ_SPARE_NUMBER(numbers) == spare_number
@@ -291,7 +296,8 @@ static void test_captures(void)
     expect_capture("neither", main_capture, 78, spare_capture, 78, 2, GVZ_NO_PATTERN, GVZ_FRAME_CRC, GVZ_NEITHER);
     expect_capture("a main capture of 51 bytes", main_capture, 51, spare_capture, 52, 1, GVZ_WRONG_LENGTH, 0, GVZ_SPARE);
     expect_capture("empty captures", main_capture, 0, spare_capture, 0, 0, GVZ_WRONG_LENGTH, GVZ_WRONG_LENGTH, GVZ_NEITHER);
-    expect_capture("26 n past 64 bits", main_capture, 78, spare_capture, 78, UINT64_C(1) << 63, GVZ_WRONG_LENGTH, GVZ_WRONG_LENGTH, GVZ_NEITHER);
+    expect_capture("26 n past 64 bits", main_capture, 78, spare_capture, 78, UINT64_C(1) << 63, GVZ_WRONG_LENGTH, GVZ_WRONG_LENGTH,
+        GVZ_NEITHER);
     expect_capture("the largest n", main_capture, 78, spare_capture, 78, UINT64_MAX, GVZ_WRONG_LENGTH, GVZ_WRONG_LENGTH, GVZ_NEITHER);
 }
 
@@ -331,7 +337,8 @@ static void model_header(uint8_t *header, uint32_t crc)
     }
 }
 
-static void expect_header_read(const char *what, const uint8_t *header, size_t header_len, size_t record_len, uint32_t status, const uint64_t *record)
+static void expect_header_read(const char *what, const uint8_t *header, size_t header_len, size_t record_len, uint32_t status,
+    const uint64_t *record)
 {
     uint64_t left[GVZ_HEADER_VALUES + 1], expected[GVZ_HEADER_VALUES + 1];
     for (int i = 0; i <= GVZ_HEADER_VALUES; i++) {
@@ -371,7 +378,8 @@ static void test_header_read(void)
 }
 
 /* The model record with one field changed, written into 190 bytes that hold 0xA5. */
-static void expect_header_write(const char *what, int field, uint64_t value, size_t record_len, size_t header_len, uint32_t status, const uint8_t *header)
+static void expect_header_write(const char *what, int field, uint64_t value, size_t record_len, size_t header_len, uint32_t status,
+    const uint8_t *header)
 {
     uint64_t record[GVZ_HEADER_VALUES + 1] = {0};
     uint8_t left[190], expected[190];
@@ -402,7 +410,8 @@ static void test_header_write(void)
     expect_header_write("a record of 146", GVZ_HEADER_FORM, 1, 146, 188, GVZ_WRONG_LENGTH, NULL);
 }
 
-static void expect_lay_in(const char *what, const uint8_t *before, size_t header_len, const char *digits, size_t frame_len, uint32_t status, const uint8_t *after)
+static void expect_lay_in(const char *what, const uint8_t *before, size_t header_len, const char *digits, size_t frame_len,
+    uint32_t status, const uint8_t *after)
 {
     uint8_t header[GVZ_HEADER_BYTES];
     memcpy(header, before, sizeof header);
