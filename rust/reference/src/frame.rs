@@ -109,8 +109,7 @@ impl Body {
 
 /// "CRC: the 91 bits B21..B111".
 fn crc_of(frame: &[u8]) -> u64 {
-    let bits: Vec<bool> = (21..=111).map(|k| bit(frame, k)).collect();
-    u64::from(crc10(&bits))
+    u64::from(crc10((21..=111).map(|k| bit(frame, k))))
 }
 
 fn body_of(frame: &[u8]) -> Body {

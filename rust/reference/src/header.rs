@@ -35,7 +35,7 @@ const EXTENSION_FIXED: RangeInclusive<usize> = 996..=1471;
 const CRC: RangeInclusive<usize> = 1472..=1503;
 
 /// How many bits a field has.
-pub fn width(field: usize) -> usize {
+pub const fn width(field: usize) -> usize {
     match field {
         PACKET => 32,
         SYNC => 16,
@@ -52,10 +52,25 @@ pub fn width(field: usize) -> usize {
     }
 }
 
-/// The places of a field: the widths before it, and the fixed bit where that lies before it.
+/// Where each field begins: after the widths before it, and after the fixed bit where that lies before it.
+static STARTS: [usize; FIELDS] = starts();
+
+const fn starts() -> [usize; FIELDS] {
+    let mut starts = [0; FIELDS];
+    let mut field = 1;
+    while field < FIELDS {
+        starts[field] = starts[field - 1] + width(field - 1);
+        if field == IDENTIFIERS {
+            starts[field] += 1;
+        }
+        field += 1;
+    }
+    starts
+}
+
+/// The places of a field.
 pub fn places(field: usize) -> RangeInclusive<usize> {
-    let fields: usize = (0..field).map(width).sum();
-    let first = fields + usize::from(field >= IDENTIFIERS);
+    let first = STARTS[field];
     first..=first + width(field) - 1
 }
 

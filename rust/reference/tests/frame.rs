@@ -185,7 +185,7 @@ fn fixed_bits() {
         put(
             &mut frame,
             112..=121,
-            u64::from(reference::crc::crc10(&bits)),
+            u64::from(reference::crc::crc10(bits)),
         );
         let word =
             reference::code::encode(&std::array::from_fn(|i| reference::bit(&frame, 17 + i)));

@@ -124,8 +124,8 @@ pub fn hit(frame: &mut [u8], count: usize, random: &mut Random) {
 
 /// The frame with the CRC of its bits, with these of it turned over, and then the parity of them all.
 pub fn sealed(mut frame: [u8; FRAME_BYTES], crc_fault: u64) -> [u8; FRAME_BYTES] {
-    let bits: Vec<bool> = (21..=111).map(|k| bit(&frame, k)).collect();
-    put(&mut frame, 112..=121, u64::from(crc10(&bits)) ^ crc_fault);
+    let crc = u64::from(crc10((21..=111).map(|k| bit(&frame, k))));
+    put(&mut frame, 112..=121, crc ^ crc_fault);
     let word = encode(&std::array::from_fn(|i| bit(&frame, 17 + i)));
     let mut whole = frame_of(&word);
     put(&mut whole, 0..=16, get(&frame, 0..=16));
