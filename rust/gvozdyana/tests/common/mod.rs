@@ -5,8 +5,8 @@ use samples::Random;
 use std::fmt;
 
 /// How many frames, and how many headers, each file of tests compares unless it is told otherwise.
-const FRAMES: u64 = 300_000;
-const HEADERS: u64 = 20_000;
+const FRAMES: u64 = 500_000;
+const HEADERS: u64 = 100_000;
 
 pub fn frames() -> u64 {
     setting("GVZ_FRAMES", FRAMES)
