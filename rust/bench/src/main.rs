@@ -1,5 +1,7 @@
 //! Times the proved version and the plain one on the same inputs, in one run: nanoseconds per call, and how many times as fast the proved
 //! one is. The only argument is the number of frames of each sort; of headers there are a tenth.
+mod listing;
+
 use gvozdyana::header::Header;
 use gvozdyana::{frame, header, place};
 use reference as plain;
@@ -218,4 +220,5 @@ fn main() {
     frame_rows(count);
     place_rows(count);
     header_rows(count / 10);
+    listing::rows(10 * count, |random| legal_frame(0, random));
 }

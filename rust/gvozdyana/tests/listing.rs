@@ -1,0 +1,85 @@
+//! The listing program, fed through a pipe, against the plain version.
+use reference::listing::{line, listing, MOST};
+use reference::FRAME_BYTES;
+use std::io::Write;
+use std::path::PathBuf;
+use std::process::{Command, Stdio};
+use std::thread;
+
+fn program() -> PathBuf {
+    let path = PathBuf::from(env!("CARGO_MANIFEST_DIR")).join("../../target/bin/list_frames");
+    assert!(
+        path.exists(),
+        "{} is built by rt check list_frames",
+        path.display()
+    );
+    path
+}
+
+/// What the program writes when these pieces come through a pipe, one write each.
+fn listed(pieces: Vec<Vec<u8>>) -> Vec<u8> {
+    let mut child = Command::new(program())
+        .stdin(Stdio::piped())
+        .stdout(Stdio::piped())
+        .spawn()
+        .expect("the listing program");
+    let mut input = child.stdin.take().expect("its input");
+    let writer = thread::spawn(move || {
+        for piece in pieces {
+            // The program stops reading after frame 999,999, so that a write may find nobody.
+            if input.write_all(&piece).is_err() {
+                break;
+            }
+        }
+    });
+    let output = child.wait_with_output().expect("its output");
+    writer.join().expect("all written");
+    assert!(output.status.success());
+    output.stdout
+}
+
+/// A clean frame: a warning for all areas.
+fn clean() -> Vec<u8> {
+    let mut frame = vec![0; FRAME_BYTES];
+    frame[0] = 0x1A;
+    frame[1] = 0xF7;
+    frame
+}
+
+#[test]
+fn pieces_of_a_pipe_are_put_together() {
+    let mut input = clean();
+    input.extend([1, 2, 3, 4, 5]);
+    for size in [1, 5, 13, 26, 31] {
+        let pieces = input.chunks(size).map(|piece| piece.to_vec()).collect();
+        assert_eq!(listed(pieces), b"1 0 0\n2 1 -\nend 2\n", "pieces of {size}");
+    }
+    assert_eq!(listed(vec![]), b"end 0\n");
+}
+
+#[test]
+fn frames_of_all_sorts() {
+    let mut random = samples::Random::new(11);
+    let input = random.bytes(26 * 3000 + 7);
+    assert_eq!(listed(vec![input.clone()]), listing(&input));
+}
+
+#[test]
+fn it_stops_after_frame_999_999() {
+    for more in [0, 1, 2] {
+        let output = listed(vec![clean().repeat(1000); 999 + more]);
+        let count = (1000 * (999 + more)).min(MOST);
+        let text = String::from_utf8(output).expect("text");
+        let mut lines = text.lines();
+        for number in 1..=count {
+            let given = lines.next().expect("a line");
+            if number == 1 || number == count {
+                assert_eq!(format!("{given}\n"), line(number, &clean()));
+            } else {
+                assert_eq!(given, format!("{number} 0 0"));
+            }
+        }
+        assert_eq!(lines.next(), Some(format!("end {count}").as_str()));
+        assert_eq!(lines.next(), None);
+    }
+}
