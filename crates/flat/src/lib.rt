@@ -10,7 +10,7 @@ pub fn status(number: u8, more: u8) -> u32
     number as u32 + 256 * (more as u32)
 }
 
-// The values of one slice into another of the same length.
+// The values of one slice into another of the same length. It requires that, since its callers have tested the length of the buffer that they were lent.
 pub fn copy(from: &[u64], to: &mut [u64])
     requires { ⌜ length (now from) ≡ length (now to) ⌝ }
     ensures { λ _. ⌜ now (to .exit) ≡ now (from .entry) ⌝ }

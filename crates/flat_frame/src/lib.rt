@@ -6,7 +6,7 @@ ghost use Rattle.flat_frame.specs.Frame.{recordFrom, frameReadStatus, fr
 use frame::Reading;
 use frame::Record;
 
-// The record that has these fields.
+// The record that has these fields. It requires that there are as many as a record has: its callers have tested that, and answered with 1 otherwise.
 pub fn record_from(v: &[u64]) -> Record
     requires { ⌜ length (now v) ≡ 18 ⌝ }
     ensures { λ r. ⌜ r ≡ recordFrom (now (v .entry)) ⌝ }

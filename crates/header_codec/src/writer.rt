@@ -70,7 +70,7 @@ fn put_extension(part: &mut [u8], extension: Extension)
     segments::write_fields(part, &kinds, &widths, &ac);
 }
 
-// The CRC in bytes 184 to 187.
+// The CRC in bytes 184 to 187. It requires a whole header: its callers have tested the length, and there is no refusal to answer with here.
 pub fn seal(header: &mut [u8])
     requires { ⌜ length (now header) ≡ 188 ⌝ }
     ensures { λ _. ⌜ now (header .exit) ≡ sealed (take 184 (now (header .entry))) ⌝ }

@@ -30,7 +30,8 @@ pub fn zeros119() -> [u64; 119]
     [0; 119]
 }
 
-// The values from number k on in steps of d.
+// The values from number k on in steps of d. Here and below it is required that the values lie in the list: the numbers are those of the layout, written
+// in the calling code, and its proof shows once that they do.
 pub fn take_run(v: &[u64], k: usize, d: usize, out: &mut [u64])
     requires { ⌜ (k + d * length (now out) < length (now v) + d) × (d < 65536) × (length (now v) < 65536) ⌝ }
     ensures { λ _. ⌜ now (out .exit) ≡ run (now (v .entry)) k d (length (now (out .entry))) ⌝ }
