@@ -6,6 +6,7 @@ pub mod Distance
 pub mod Decoding
 pub mod Majority
 pub mod Answers
+pub mod BeyondEight
 pub mod Encoding
 pub mod Promises
 pub mod Worked

@@ -29,7 +29,7 @@ module _ (r c : List Bool) (h : length r ≡ 187) (k : CodeWord c) where
   lengths = h ∙ sym (length-word c k)
 
   -- the sums of r on the rows are those of its error
-  error-failures : (p : ℕ) → failures (add r c) p ≡ failures r p
+  pub error-failures : (p : ℕ) → failures (add r c) p ≡ failures r p
   error-failures p =
       rows-same (syndrome (add r c)) (syndrome r) p λ s hs.
       syndrome-add r c s lengths ∙ ap (syndrome r s ⊕_) (word-even c k s hs) ∙ xor-false (syndrome r s)

@@ -12,7 +12,7 @@ use Rattle.gf2.specs.Polynomial.{add}
 use Rattle.gf2.proofs.Sum.{length-add}
 use Rattle.dsc.specs.Code.{CodeWord, weight, dist}
 use Rattle.dsc.specs.Repair.{protected, wordBytes, decode, repairedTo, answerTo, numberOf, repairOf}
-use Rattle.dsc.specs.Promises.{NoneWithinEight, Demand3, CodeLaws}
+use Rattle.dsc.specs.Promises.{NoneWithinEight, Demand3, BeyondEight, CodeLaws}
 use Rattle.dsc.proofs.Word.{length-word, parity-word, parity-only}
 use Rattle.dsc.proofs.CheckRows.{word-even}
 use Rattle.dsc.proofs.Incidence.{on-seventeen, share-one}
@@ -20,6 +20,7 @@ use Rattle.dsc.proofs.EvenRows.{even-word}
 use Rattle.dsc.proofs.Distance.{dist-hit, dist-same, distance18, only-one}
 use Rattle.dsc.proofs.Encoding.{encoded-word, encoded-message, encoded-only}
 use Rattle.dsc.proofs.Answers.{length-wordBytes, protected-wordBytes, repair-short, repair-decoded, repair-found, repair-none, repairs, repairs-only}
+use Rattle.dsc.proofs.BeyondEight.{held, from-other, refused-or-wrong, ten-wrong, ten-refused}
 
 gives-sent-word : (f : List ℕ) (c e : List Bool) → length f ≡ 26 → CodeWord c → length e ≡ 187 → weight e ≤ 8
     → protected f ≡ add e c → repairOf f ≡ repairedTo c (weight e)
@@ -68,6 +69,23 @@ demand3 =
       looks-only = λ f g hf hg e.
           repair-decoded f hf (decode (protected f)) refl ∙ ap (λ r. answerTo r (decode r)) e ∙ sym (repair-decoded g hg (decode (protected g)) refl);
       repaired-is-clean = repaired-is-clean;
+    }
+
+pub beyond-eight : BeyondEight
+beyond-eight =
+    record {
+      held = held;
+      nine = λ f c e h. repair-none f (h .size) (λ d k w. omega (arith, from-other h (omega arith) d k w));
+      ten = λ f c e h. refused-or-wrong h (omega arith) (λ m hi lo. omega arith);
+      ten-wrong = ten-wrong;
+      ten-refused = ten-refused;
+      eleven = λ f c e h. refused-or-wrong h (omega arith) (λ m hi lo. omega arith);
+      twelve = λ f c e h. refused-or-wrong h (omega arith) (λ m hi lo. omega arith);
+      thirteen = λ f c e h. refused-or-wrong h (omega arith) (λ m hi lo. omega arith);
+      fourteen = λ f c e h. refused-or-wrong h (omega arith) (λ m hi lo. omega arith);
+      fifteen = λ f c e h. refused-or-wrong h (omega arith) (λ m hi lo. omega arith);
+      sixteen = λ f c e h. refused-or-wrong h (omega arith) (λ m hi lo. omega arith);
+      seventeen = λ f c e h. refused-or-wrong h (omega arith) (λ m hi lo. omega arith);
     }
 
 pub code-laws : CodeLaws

@@ -1,16 +1,17 @@
 -- What this crate promises, in the words of demand 3. Each record has one value, proved in proofs/Promises.antt.
 -- Assumes nothing.
 use mathlib.Core.Path.{_≡_}
-use mathlib.Core.Bool.{Bool, false, _&&_}
+use mathlib.Core.Bool.{Bool, true, false, _&&_}
 use mathlib.Core.Logic.{_≢_}
 use mathlib.Core.List.{List, _++_}
 use Prim.Native.Nat.{ℕ, _≤_, _<_}
-use lib.ListN.{length, take}
-use Rattle.gf2.specs.Polynomial.{member, add}
+use lib.ListN.{length, take, replicate}
+use Rattle.gf2.specs.Polynomial.{zeros, member, add}
 use Rattle.dsc.specs.Code.{CodeWord, count, weight, dist, parityOf}
 use Rattle.dsc.specs.CheckTable.{row, upto, syndrome}
-use Rattle.dsc.specs.Repair.{protected, wordBytes, repairedTo, numberOf, repairOf, Repairs}
+use Rattle.dsc.specs.Repair.{protected, wordBytes, repairedTo, refusedWith, numberOf, repairOf, Repairs}
 use Rattle.dsc.specs.Encoding.{messageOf, encodeOf}
+use Rattle.dsc.specs.Worked.{generatorWord, among}
 use Rattle.dsc.specs.declared.Answer.{Answer}
 
 -- no code word differs from r in eight places or fewer
@@ -37,6 +38,48 @@ pub record Demand3 : Type 0 where
   pub looks-only : (f g : List ℕ) → length f ≡ 26 → length g ≡ 26 → protected f ≡ protected g → repairOf f ≡ repairOf g
   -- a word that was repaired needs no repair
   pub repaired-is-clean : (c : List Bool) → CodeWord c → repairOf (wordBytes c) ≡ repairedTo c 0
+
+-- ---- more than eight hits
+
+-- the frame f has 26 bytes and holds the code word c, hit in the places of e, which are n
+pub record Hit (n : ℕ) (c e : List Bool) (f : List ℕ) : Type 0 where
+  pub size : length f ≡ 26
+  pub sent : CodeWord c
+  pub places : length e ≡ 187
+  pub number : weight e ≡ n
+  pub received : protected f ≡ add e c
+
+-- where c was sent, the answer a is refusal 4, or a code word that is not c, with a count of at most eight of which P holds
+pub data RefusedOrWrong (P : ℕ → Type 0) (c : List Bool) (a : Answer) : Type 0 where
+  refused : a ≡ refusedWith 4 → RefusedOrWrong P c a
+  wrong : (d : List Bool) (m : ℕ) → CodeWord d → d ≢ c → P m → m ≤ 8 → a ≡ repairedTo d m → RefusedOrWrong P c a
+
+-- whichever code word was sent, and whichever n places of it were hit: what is then true of it and the answer
+abbrev pub AfterHits : ℕ → (List Bool → Answer → Type 0) → Type 0
+AfterHits n Q = (f : List ℕ) (c e : List Bool) → Hit n c e f → Q c (repairOf f)
+
+-- B17 to B26
+unfoldable pub firstTen : List Bool
+firstTen = replicate 10 true ++ zeros 177
+
+pub record BeyondEight : Type 0 where
+  -- every code word, hit in any places, is held by a frame: no line below speaks of nothing
+  pub held : (c e : List Bool) → CodeWord c → length e ≡ 187 → Hit (weight e) c e (wordBytes (add e c))
+  -- nine hits: always refusal 4
+  pub nine : AfterHits 9 (λ c a. a ≡ refusedWith 4)
+  -- ten hits: refusal 4, or a word that is not the sent one, with count exactly 8
+  pub ten : AfterHits 10 (RefusedOrWrong (λ m. m ≡ 8))
+  -- both come about with the zero word: any ten of the generator's places (example 5), and B17 to B26
+  pub ten-wrong : (f : List ℕ) (e : List Bool) → Hit 10 (zeros 187) e f → among e generatorWord ≡ true → repairOf f ≡ repairedTo generatorWord 8
+  pub ten-refused : (f : List ℕ) → Hit 10 (zeros 187) firstTen f → repairOf f ≡ refusedWith 4
+  -- 11 to 17 hits: refusal 4, or a word that is not the sent one, with a count of at least 18 less the hits
+  pub eleven : AfterHits 11 (RefusedOrWrong (λ m. 7 ≤ m))
+  pub twelve : AfterHits 12 (RefusedOrWrong (λ m. 6 ≤ m))
+  pub thirteen : AfterHits 13 (RefusedOrWrong (λ m. 5 ≤ m))
+  pub fourteen : AfterHits 14 (RefusedOrWrong (λ m. 4 ≤ m))
+  pub fifteen : AfterHits 15 (RefusedOrWrong (λ m. 3 ≤ m))
+  pub sixteen : AfterHits 16 (RefusedOrWrong (λ m. 2 ≤ m))
+  pub seventeen : AfterHits 17 (RefusedOrWrong (λ m. 1 ≤ m))
 
 -- the code, its check table and its encoder
 pub record CodeLaws : Type 0 where

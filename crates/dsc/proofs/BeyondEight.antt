@@ -1,0 +1,123 @@
+-- A code word hit in nine places or more: what its distance of 18 from every other code word leaves. No decoder is in here.
+-- Assumes nothing.
+use mathlib.Core.Path.{_≡_, refl, sym, ap, _∙_, subst}
+use mathlib.Core.Bool.{Bool, true, false, false≢true, cond}
+use mathlib.Core.Logic.{_≢_}
+use mathlib.Core.List.{List, [], _∷_, _++_}
+use Prim.Native.Nat.{ℕ, suc, _+_, _≤_}
+use native.Mathlib.Nat.{suc-inj}
+use native.Mathlib.Omega.{arith}
+use lib.ListN.{length, replicate}
+use borrow.Author.Tests.{eq-eqb}
+use Rattle.gf2.specs.Polynomial.{_⊕_, zeros, add}
+use Rattle.gf2.proofs.Sum.{length-add, add-to-zeros}
+use Rattle.dsc.specs.Code.{CodeWord, weight, dist}
+use Rattle.dsc.specs.CheckTable.{differences, coefficient, failures}
+use Rattle.dsc.specs.Repair.{protected, wordBytes, repairedTo, refusedWith, repairOf}
+use Rattle.dsc.specs.Worked.{generatorWord, among, SomePlaces}
+use Rattle.dsc.specs.Promises.{Hit, RefusedOrWrong, refused, wrong, firstTen}
+use Rattle.dsc.proofs.Word.{length-word}
+use Rattle.dsc.proofs.Distance.{Hits, hits, dist-triangle, dist-hit, distance18}
+use Rattle.dsc.proofs.Majority.{Nearest, one, none, nearest, error-failures}
+use Rattle.dsc.proofs.Answers.{length-protected, length-wordBytes, protected-wordBytes, repair-found, repair-none}
+use Rattle.dsc.proofs.Worked.{worked}
+
+pub held : (c e : List Bool) → CodeWord c → length e ≡ 187 → Hit (weight e) c e (wordBytes (add e c))
+held c e k l =
+    record {
+      size = length-wordBytes (add e c);
+      sent = k;
+      places = l;
+      number = refl;
+      received = protected-wordBytes (add e c) (length-add e c ∙ length-word c k);
+    }
+
+module _ {n : ℕ} {c e : List Bool} {f : List ℕ} (h : Hit n c e f) where
+  pub from-sent : dist (protected f) c ≡ n
+  from-sent = ap (λ r. dist r c) (h .received) ∙ dist-hit e c (h .places ∙ sym (length-word c (h .sent))) ∙ h .number
+
+  module _ (l : 9 ≤ n) (d : List Bool) (k : CodeWord d) (w : dist (protected f) d ≤ 8) where
+    -- a code word within eight places is not the sent one, which is farther,
+    pub not-sent : d ≢ c
+    not-sent same = omega (arith, from-sent, ap (dist (protected f)) same)
+
+    -- and so at least 18 places from it
+    pub from-other : 18 ≤ n + dist (protected f) d
+    from-other =
+        let r : length (protected f) ≡ 187 = length-protected f (h .size) in
+        let apart : 18 ≤ dist c d = distance18 c d (h .sent) k (λ same. not-sent (sym same)) in
+        let t : dist c d ≤ dist (protected f) c + dist (protected f) d
+        = dist-triangle (protected f) c d (r ∙ sym (length-word c (h .sent))) (r ∙ sym (length-word d k)) in
+        omega (arith, from-sent)
+
+  -- what follows for the count of a wrong word
+  pub refused-or-wrong : {P : ℕ → Type 0} → 9 ≤ n → ((m : ℕ) → m ≤ 8 → 18 ≤ n + m → P m) → RefusedOrWrong P c (repairOf f)
+  refused-or-wrong {P} l p = go (nearest (protected f) (length-protected f (h .size)))
+    where
+      go : Nearest (protected f) → RefusedOrWrong P c (repairOf f)
+      go (one d k w) = wrong d (dist (protected f) d) k (not-sent l d k w) (p (dist (protected f) d) w (from-other l d k w)) w (repair-found f (h .size) d k w)
+      go (none z) = refused (repair-none f (h .size) z)
+
+-- ---- the zero word, hit in ten places
+
+zero-hit : (f : List ℕ) (e : List Bool) → Hit 10 (zeros 187) e f → protected f ≡ e
+zero-hit f e h = h .received ∙ ap (λ n. add e (zeros n)) (sym (h .places)) ∙ add-to-zeros e
+
+pub ten-wrong : (f : List ℕ) (e : List Bool) → Hit 10 (zeros 187) e f → among e generatorWord ≡ true → repairOf f ≡ repairedTo generatorWord 8
+ten-wrong f e h a =
+    let r : protected f ≡ e = zero-hit f e h in
+    worked .example5 f (record { size = h .size; places = ap (λ w. among w generatorWord) r ∙ a; number = ap weight r ∙ h .number })
+
+-- ---- B17 to B26: ten of the rows through B17 fail, so a code word within eight places was hit there, and has 0. It is then within seven
+-- ---- places of B18 to B26, and these are nine from the zero word.
+
+ten-rows : failures firstTen 186 ≡ 10
+unfolding firstTen differences
+ten-rows = refl
+
+length-firstTen : length firstTen ≡ 187
+unfolding firstTen
+length-firstTen = refl
+
+first-hit : (c : List Bool) → CodeWord c → dist firstTen c ≤ 8 → coefficient (add firstTen c) 186 ≡ true
+first-hit c k w = go (coefficient (add firstTen c) 186) refl
+  where
+    go : (b : Bool) → coefficient (add firstTen c) 186 ≡ b → coefficient (add firstTen c) 186 ≡ true
+    go true e = e
+    go false e =
+        let n : Hits (add firstTen c) 186 = hits (add firstTen c) 186 (omega (arith, length-add firstTen c, length-word c k)) (omega arith) in
+        absurd (omega (arith, n .missed e, error-failures firstTen c length-firstTen k 186, ten-rows))
+
+-- B18 to B26
+nextNine : List Bool
+nextNine = false ∷ (replicate 9 true ++ zeros 177)
+
+length-nextNine : length nextNine ≡ 187
+unfolding nextNine
+length-nextNine = refl
+
+nine-ones : dist nextNine (zeros 187) ≡ 9
+unfolding add nextNine
+nine-ones = refl
+
+within-seven : (b : Bool) (c : List Bool) → length c ≡ 186 → coefficient (add firstTen (b ∷ c)) 186 ≡ true → dist firstTen (b ∷ c) ≤ 8
+    → dist nextNine (b ∷ c) ≤ 7
+unfolding firstTen nextNine add
+within-seven false c l e w = omega arith
+within-seven true c l e w =
+    let rest : List Bool = add (replicate 9 true ++ zeros 177) c in
+    let n : length rest ≡ 186 = length-add (replicate 9 true ++ zeros 177) c ∙ l in
+    absurd (false≢true (sym (ap (λ t. cond t false (coefficient rest 186)) (eq-eqb 186 (length rest) (sym n))) ∙ e))
+
+pub ten-refused : (f : List ℕ) → Hit 10 (zeros 187) firstTen f → repairOf f ≡ refusedWith 4
+ten-refused f h =
+    repair-none f (h .size) (λ c k w. none-near c k (subst (λ r. dist r c ≤ 8) (zero-hit f firstTen h) w) (not-sent h (omega arith) c k w))
+  where
+    none-near : (c : List Bool) → CodeWord c → dist firstTen c ≤ 8 → c ≢ zeros 187 → ⊥
+    none-near [] k w ne = omega (arith, length-word [] k)
+    none-near (b ∷ c) k w ne =
+        let l : length (b ∷ c) ≡ 187 = length-word (b ∷ c) k in
+        let near : dist nextNine (b ∷ c) ≤ 7 = within-seven b c (suc-inj l) (first-hit (b ∷ c) k w) w in
+        let t : dist (zeros 187) (b ∷ c) ≤ dist nextNine (zeros 187) + dist nextNine (b ∷ c)
+        = dist-triangle nextNine (zeros 187) (b ∷ c) length-nextNine (length-nextNine ∙ sym l) in
+        omega (arith, nine-ones, distance18 (zeros 187) (b ∷ c) (h .sent) k (λ same. ne (sym same)))
