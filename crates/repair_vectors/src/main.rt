@@ -125,6 +125,11 @@ fn main() {
     repairs::line(3, &long);
     repairs::line(4, &zeros);
     repairs::line(5, &ones);
+    // Ten hits on the zero word: ten of the generator's places, then B17 to B26.
+    let wrong = some_places(0, 10);
+    let far = hit(zeros, 0, 10);
+    repairs::line(6, &wrong);
+    repairs::line(7, &far);
     told(
         b"eight of the generator's places, repaired in 8, of 18: ",
         choices(8, 108),

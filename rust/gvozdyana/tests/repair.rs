@@ -3,7 +3,7 @@ mod common;
 use common::{for_each_seed, frames, hex, Case};
 use gvozdyana::{repair, repair_into, Refusal, Repaired, FRAME_BYTES};
 use reference::code::{distance, frame_of, is_code_word, protected, GENERATOR, LENGTH};
-use samples::{hit, sent_and_hit, shifted_generator};
+use samples::{code_word, hit, sent_and_hit, shifted_generator};
 
 /// The proved answer, once it is the plain version's.
 fn compared(frame: &[u8], case: Case) -> Result<Repaired, Refusal> {
@@ -16,7 +16,7 @@ fn compared(frame: &[u8], case: Case) -> Result<Repaired, Refusal> {
 
 #[test]
 fn code_words_hit_in_up_to_14_places() {
-    for_each_seed(1, frames() * 60 / 100, |random, case| {
+    for_each_seed(1, frames() * 40 / 100, |random, case| {
         let hits = random.below(15);
         let (sent, frame) = sent_and_hit(hits, random);
         let told = compared(&frame, case);
@@ -144,4 +144,72 @@ fn buffers_of_0_to_60_bytes() {
         );
         assert_eq!(word, left, "{}", what());
     });
+}
+
+/// Any nine to 17 places of any word: refused, or a word that was not sent, with a count of at least 18 less the hits.
+#[test]
+fn nine_to_17_hits_anywhere() {
+    for_each_seed(6, frames() * 10 / 100, |random, case| {
+        let hits = 9 + random.below(9);
+        let (sent, frame) = sent_and_hit(hits, random);
+        let what = || format!("frame {} of {case}, {hits} hits", hex(&frame));
+        match compared(&frame, case) {
+            Ok(r) => {
+                assert!(hits > 9, "{}", what());
+                assert_ne!(protected(&r.word), sent, "{}", what());
+                assert!(usize::from(r.places) + hits >= 18, "{}", what());
+                assert!(r.places <= 8, "{}", what());
+            }
+            Err(refusal) => assert_eq!(refusal, Refusal::BeyondRepair, "{}", what()),
+        }
+    });
+}
+
+/// Hits that lead towards another code word, which random ones hardly ever do: the least count that is allowed.
+#[test]
+fn nine_to_17_hits_towards_another_word() {
+    for_each_seed(7, frames() * 10 / 100, |random, case| {
+        let sent = code_word(random);
+        let apart = shifted_generator(random.below(105));
+        let places: Vec<usize> = (0..LENGTH).filter(|&place| apart[place] == 1).collect();
+        let hits = 9 + random.below(9);
+        let chosen = random.choose(hits, &places);
+        let frame = hit(&sent, &chosen, random);
+        let expected = if hits == 9 {
+            Err(Refusal::BeyondRepair)
+        } else {
+            Ok(Repaired {
+                word: frame_of(&std::array::from_fn(|place| sent[place] ^ apart[place])),
+                places: 18 - hits as u8,
+            })
+        };
+        assert_eq!(
+            compared(&frame, case),
+            expected,
+            "frame {} of {case}, {hits} hits",
+            hex(&frame)
+        );
+    });
+}
+
+/// Both answers to ten hits, on the zero word.
+#[test]
+fn ten_hits_on_the_zero_word() {
+    let mut frame = [0; FRAME_BYTES];
+    for k in 17..27 {
+        frame[k / 8] |= 128 >> (k % 8);
+    }
+    assert_eq!(hex(&frame[..4]), "00007fe0");
+    assert_eq!(repair(&frame), Err(Refusal::BeyondRepair));
+
+    let generator = frame_of(&shifted_generator(0));
+    let mut frame = generator;
+    for k in [121, 126, 127, 132, 136, 137, 147, 151] {
+        frame[k / 8] ^= 128 >> (k % 8);
+    }
+    let told = Repaired {
+        word: generator,
+        places: 8,
+    };
+    assert_eq!(repair(&frame), Ok(told));
 }
