@@ -4,3 +4,4 @@ pub mod Field
 pub mod Layouts
 pub mod Segment
 pub mod Refusal
+pub mod Slices

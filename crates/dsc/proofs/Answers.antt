@@ -12,13 +12,10 @@ use borrow.Author.Tests.{eq-eqb, ne-eqb, eqb-true, eqb-false}
 use Rattle.bits.specs.Bits.{bits}
 use Rattle.bits.proofs.Bits.{length-bits, length-bytes, bits-bytes}
 use Rattle.gf2.specs.Polynomial.{zeros}
-use Rattle.dsc.specs.Code.{CodeWord, dist, isCodeWord}
-use Rattle.dsc.specs.Engine.{flipped}
+use Rattle.dsc.specs.Code.{CodeWord, dist}
 use Rattle.dsc.specs.Repair.{protected, wordBytes, Decoded, corrected, beyond, decode, repairedTo, refusedWith, answerTo, numberOf, repairOf, Repairs}
 use Rattle.dsc.specs.declared.Answer.{Answer}
-use Rattle.dsc.proofs.Word.{word-tested, tested-word}
-use Rattle.dsc.proofs.Decoding.{decode-found, decode-none}
-use Rattle.dsc.proofs.Majority.{Nearest, one, none, nearest, flipped-none}
+use Rattle.dsc.proofs.Decoding.{decode-found, decode-none, Nearest, one, none, nearest}
 
 -- ---- the protected part
 
@@ -42,18 +39,6 @@ protected-wordBytes w h =
     ap (λ b. take 187 (drop 17 b)) (bits-wordBytes w h)
     ∙ ap (take 187) (drop-at (zeros 17) (w ++ zeros 4) 17 refl)
     ∙ take-at w (zeros 4) 187 h
-
--- ---- the answer to 187 bits, as the engine comes to it
-
-module _ (r : List Bool) (h : length r ≡ 187) where
-  pub answer-found : (c : List Bool) (n : ℕ) → isCodeWord c ≡ true → length c ≡ 187 → n ≡ dist r c → n ≤ 8 → repairedTo c n ≡ answerTo r (decode r)
-  unfolding answerTo
-  answer-found c n t l e d = rw (decode-found r h c (tested-word c l t) (omega arith)) (ap (repairedTo c) e)
-
-  -- a word that is no code word, or differs in more than eight places, is not what the majority gives within eight
-  pub answer-none : (w : List Bool) → w ≡ flipped r r → (isCodeWord w ≡ true → dist r w ≤ 8 → ⊥) → refusedWith 4 ≡ answerTo r (decode r)
-  unfolding answerTo
-  answer-none w e n = rw (flipped-none r h (λ k d. n (word-tested w (subst CodeWord (sym e) k)) (subst (λ u. dist r u ≤ 8) (sym e) d)))
 
 -- ---- the answer by cases
 

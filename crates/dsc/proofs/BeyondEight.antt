@@ -17,8 +17,8 @@ use Rattle.dsc.specs.Repair.{protected, wordBytes, repairedTo, refusedWi
 use Rattle.dsc.specs.Worked.{generatorWord, among, SomePlaces}
 use Rattle.dsc.specs.Promises.{Hit, RefusedOrWrong, refused, wrong, firstTen}
 use Rattle.dsc.proofs.Word.{length-word}
-use Rattle.dsc.proofs.Distance.{Hits, hits, dist-triangle, dist-hit, distance18}
-use Rattle.dsc.proofs.Majority.{Nearest, one, none, nearest, error-failures}
+use Rattle.dsc.proofs.Distance.{Hits, hits, error-failures, dist-triangle, dist-hit, distance18}
+use Rattle.dsc.proofs.Decoding.{Nearest, one, none, nearest}
 use Rattle.dsc.proofs.Answers.{length-protected, length-wordBytes, protected-wordBytes, repair-found, repair-none}
 use Rattle.dsc.proofs.Worked.{worked}
 

@@ -1,5 +1,5 @@
 -- The search of the ball finds the code word within eight places, and nothing where there is none. Assumes nothing.
-use mathlib.Core.Path.{_≡_, refl, sym, ap, _∙_}
+use mathlib.Core.Path.{_≡_, refl, sym, ap, _∙_, subst}
 use mathlib.Core.Bool.{Bool, true, false, not, true≢false, cond}
 use mathlib.Core.Logic.{_⊎_, inl, inr}
 use mathlib.Core.List.{List, [], _∷_, _++_, map, List·Memᴰ, List·Memᴰ·head, List·Memᴰ·tail, List·Memᴰ·cases-cons, List·Memᴰ·not-nil, Memᴰ·append-left, Memᴰ·append-right}
@@ -9,7 +9,7 @@ use native.Mathlib.Omega.{arith}
 use lib.ListN.{length}
 use Rattle.gf2.specs.Polynomial.{add}
 use Rattle.dsc.specs.Code.{CodeWord, dist, isCodeWord}
-use Rattle.dsc.specs.Repair.{ball, corrected, beyond, firstCodeWord, decode}
+use Rattle.dsc.specs.Repair.{ball, Decoded, corrected, beyond, firstCodeWord, decode}
 use Rattle.dsc.proofs.Word.{length-word, word-tested, tested-word}
 use Rattle.dsc.proofs.Distance.{only-one}
 
@@ -89,6 +89,14 @@ in-ball (suc t) (false ∷ r) (true ∷ w) h = other-first t false r w (in-ball 
 
 -- ---- the first code word of a list
 
+abbrev found : Decoded → List Bool
+found (corrected c) = c
+found beyond = []
+
+abbrev isFound : Decoded → Bool
+isFound (corrected c) = true
+isFound beyond = false
+
 first-found : (c : List Bool) (ws : List (List Bool)) → isCodeWord c ≡ true → List·Memᴰ c ws → All (λ w. isCodeWord w ≡ true → w ≡ c) ws → firstCodeWord ws ≡ corrected c
 unfolding firstCodeWord
 first-found c [] k m a = absurd (List·Memᴰ·not-nil m)
@@ -108,6 +116,16 @@ first-none (w ∷ ws) a = go (isCodeWord w) refl (first-none ws (a .1))
     go true e ih = absurd (a .0 e)
     go false e ih = ih
 
+first-code-word : (P : List Bool → Type 0) (ws : List (List Bool)) (c : List Bool) → All P ws → firstCodeWord ws ≡ corrected c → P c × (isCodeWord c ≡ true)
+unfolding firstCodeWord
+first-code-word P [] c a e = absurd (true≢false (sym (ap isFound e)))
+first-code-word P (w ∷ ws) c a e = go (isCodeWord w) refl e (first-code-word P ws c (a .1))
+  where
+    go : (t : Bool) → isCodeWord w ≡ t → cond t (corrected w) (firstCodeWord ws) ≡ corrected c
+        → (firstCodeWord ws ≡ corrected c → P c × (isCodeWord c ≡ true)) → P c × (isCodeWord c ≡ true)
+    go true q e ih = let same : w ≡ c = ap found e in (subst P same (a .0), subst (λ u. isCodeWord u ≡ true) same q)
+    go false q e ih = ih e
+
 -- ---- the laws of decode
 
 module _ (r : List Bool) (h : length r ≡ 187) where
@@ -123,3 +141,19 @@ module _ (r : List Bool) (h : length r ≡ 187) where
   decode-none none =
       first-none (ball 8 r)
       (all-weaker (Within 8 r) (λ w. isCodeWord w ≡ true → ⊥) (ball 8 r) (λ w n t. none w (tested-word w (n .0 ∙ h) t) (n .1)) (ball-within 8 r))
+
+-- ---- so there is a code word within eight places, or there is none
+
+pub data Nearest (r : List Bool) : Type 0 where
+  one : (c : List Bool) → CodeWord c → dist r c ≤ 8 → Nearest r
+  none : ((c : List Bool) → CodeWord c → dist r c ≤ 8 → ⊥) → Nearest r
+
+pub nearest : (r : List Bool) → length r ≡ 187 → Nearest r
+unfolding decode
+nearest r h = go (decode r) refl
+  where
+    go : (d : Decoded) → decode r ≡ d → Nearest r
+    go (corrected c) e =
+        let n = first-code-word (Within 8 r) (ball 8 r) c (ball-within 8 r) e in
+        one c (tested-word c (n .0 .0 ∙ h) (n .1)) (n .0 .1)
+    go beyond e = none (λ c k d. true≢false (sym (ap isFound (decode-found r h c k d)) ∙ ap isFound e))

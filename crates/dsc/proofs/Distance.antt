@@ -10,7 +10,7 @@ use lib.Dec.{eqb}
 use lib.ListN.{length}
 use borrow.Author.Tests.{eq-eqb, eqb-true, eqb-false}
 use Rattle.gf2.specs.Polynomial.{_⊕_, zeros, add}
-use Rattle.gf2.proofs.Sum.{length-add, add-none, add-assoc, add-same, add-to-zeros}
+use Rattle.gf2.proofs.Sum.{xor-false, length-add, add-none, add-assoc, add-same, add-to-zeros}
 use Rattle.dsc.specs.Code.{CodeWord, bit, count, weight, dist}
 use Rattle.dsc.specs.CheckTable.{rowsOf, coefficient, syndrome, failures}
 use Rattle.dsc.proofs.Word.{length-word}
@@ -84,6 +84,12 @@ hits (true ∷ e) p h hp = go (hits e p (omega arith) hp) (eqb p n) refl
           missed = λ z. omega (arith, ih .missed (sym at ∙ z), now, t, one);
           struck = λ z. omega (arith, ih .struck (sym at ∙ z), now, t, one);
         }
+
+-- the rows that fail for a received word are those of its error
+pub error-failures : (r c : List Bool) → length r ≡ 187 → CodeWord c → (p : ℕ) → failures (add r c) p ≡ failures r p
+error-failures r c h k p =
+    rows-same (syndrome (add r c)) (syndrome r) p λ s hs.
+    syndrome-add r c s (h ∙ sym (length-word c k)) ∙ ap (syndrome r s ⊕_) (word-even c k s hs) ∙ xor-false (syndrome r s)
 
 -- ---- so a word that is not zero and fails on no row has 18 ones or more
 

@@ -4,14 +4,8 @@ pub mod Incidence
 pub mod EvenRows
 pub mod Distance
 pub mod Decoding
-pub mod Majority
 pub mod Answers
 pub mod BeyondEight
 pub mod Encoding
 pub mod Promises
 pub mod Worked
-pub mod TableRule
-pub mod RowSums
-pub mod Steps
-pub mod Octets
-pub mod LongDivision

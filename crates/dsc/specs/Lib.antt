@@ -4,4 +4,3 @@ pub mod Repair
 pub mod Encoding
 pub mod Promises
 pub mod Worked
-pub mod Engine

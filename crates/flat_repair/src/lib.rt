@@ -11,7 +11,7 @@ pub fn repair(frame: &[u8], word: &mut [u8]) -> u32
     if word.len() != 26 {
         return flat::status(1, 0);
     }
-    let answer = dsc::repair(frame);
+    let answer = dsc_codec::repair(frame);
     let outcome = answer.outcome;
     match outcome {
         Outcome::Repaired(places) => {

@@ -22,7 +22,7 @@ use Rattle.dsc.specs.Code.{CodeWord, dist, parityOf}
 use Rattle.dsc.specs.Repair.{protected, wordBytes, repairedTo, numberOf, repairOf}
 use Rattle.dsc.specs.declared.Answer.{Answer}
 use Rattle.dsc.proofs.Word.{length-word, parity-only}
-use Rattle.dsc.proofs.Majority.{Nearest, one, none, nearest}
+use Rattle.dsc.proofs.Decoding.{Nearest, one, none, nearest}
 use Rattle.dsc.proofs.Answers.{length-protected, length-wordBytes, protected-wordBytes, repair-found, repair-none}
 use Rattle.frame.specs.Pattern.{patternOf}
 use Rattle.frame.specs.Identification.{classOf, startEndOf, updateOf, isUndefined}

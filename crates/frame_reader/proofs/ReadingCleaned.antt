@@ -14,7 +14,7 @@ use Rattle.bits.proofs.Refusal.{refusal-none}
 use Rattle.gf2.specs.Polynomial.{zeros}
 use Rattle.dsc.specs.Repair.{protected, numberOf, repairOf}
 use Rattle.dsc.proofs.Answers.{length-protected, length-wordBytes, bits-wordBytes, protected-wordBytes, answered, repair-found, repair-none}
-use Rattle.dsc.proofs.Majority.{Nearest, one, none, nearest}
+use Rattle.dsc.proofs.Decoding.{Nearest, one, none, nearest}
 use Rattle.dsc.proofs.Word.{length-word}
 use Rattle.frame.specs.Pattern.{patternWord, patternOf}
 use Rattle.frame.specs.Fields.{recordOf}

@@ -338,7 +338,7 @@ fn examine(frame: &[u8]) -> Examined
     if front != 0 {
         return refused(front);
     }
-    let answer = dsc::repair(frame);
+    let answer = dsc_codec::repair(frame);
     let outcome = answer.outcome;
     match outcome {
         Outcome::Repaired(places) => {

@@ -236,7 +236,7 @@ fn write_frame(contents: Record, frame: &mut [u8])
     write_details(contents, &mut frame[3..]);
     let crc = crc::crc10(frame, 21, 91);
     bits::put(frame, 112, 10, crc as u64);
-    dsc::encode(frame);
+    dsc_codec::encode(frame);
 }
 
 // Writes the frame of a record into a buffer of 26 bytes, and answers 0; or refuses 1, 6, 10, 9, in that order, and leaves the buffer.

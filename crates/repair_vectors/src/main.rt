@@ -59,7 +59,7 @@ fn some_places(i: usize, n: usize) -> [u8; 26] {
 
 // The answer as one number: 100 and the places, or the refusal.
 fn number(frame: [u8; 26]) -> u64 {
-    let answer = dsc::repair(&frame);
+    let answer = dsc_codec::repair(&frame);
     let outcome = answer.outcome;
     match outcome {
         Outcome::Repaired(places) => 100 + places as u64,
@@ -90,7 +90,7 @@ fn encoded(seed: usize) -> [u8; 26] {
         x = (x * 75 + 74) % 65537;
         f[i] = (x % 256) as u8;
     }
-    dsc::encode(&mut f);
+    dsc_codec::encode(&mut f);
     f
 }
 

@@ -1,5 +1,5 @@
 // What the repair did with frames, as lines of text: `1 repaired 0` and the repaired word, or `2 refused 4`. The lines are for people
-// and for tests; what they tell of is proved in `dsc`.
+// and for tests; what they tell of is proved in `dsc_codec`.
 use dsc::Outcome;
 use libc::STDIN_FILENO;
 use libc::STDOUT_FILENO;
@@ -22,7 +22,7 @@ fn word(w: [u8; 26]) {
 
 // The line of frame n.
 pub fn line(n: u64, frame: &[u8]) {
-    let answer = dsc::repair(frame);
+    let answer = dsc_codec::repair(frame);
     let outcome = answer.outcome;
     io::print_decimal(STDOUT_FILENO, n);
     match outcome {

@@ -7,7 +7,7 @@ use lib.ListN.{length, take, drop}
 use denote.Ref.{now}
 use borrow.Author.Needs.{needs}
 use Rattle.bits.specs.Layout.{pack}
-use Rattle.dsc.proofs.LongDivision.{rest-lent}
+use Rattle.bits.proofs.Slices.{rest-lent}
 use Rattle.laying.specs.AcBits.{acWidths, withFirst}
 use Rattle.laying.proofs.AcValues.{header-written}
 use Rattle.laying.proofs.put_into.Statement.{statement}

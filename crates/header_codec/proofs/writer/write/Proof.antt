@@ -7,7 +7,7 @@ use denote.Ref.{now}
 use lib.ListN.{length, take, drop}
 use Rattle.bits.specs.Bits.{bytes}
 use Rattle.bits.specs.Segment.{packSegments}
-use Rattle.dsc.proofs.LongDivision.{rest-lent}
+use Rattle.bits.proofs.Slices.{rest-lent}
 use Rattle.header.specs.Layout.{extensionLayout}
 use Rattle.header.specs.Fields.{extensionFields}
 use Rattle.header_codec.proofs.Writing.{short-number, record-number, buffer-kept, buffer-written, header-written}

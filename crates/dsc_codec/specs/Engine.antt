@@ -1,0 +1,43 @@
+-- How the shipped repair finds the code word: one-step majority logic over the check table. Only the functions of this crate
+-- speak of it; what the box promises (Repair, Promises) does not.
+-- Assumes nothing.
+use mathlib.Core.Path.{_≡_}
+use mathlib.Core.Bool.{Bool, true, false}
+use mathlib.Core.List.{List, [], _∷_, _++_}
+use Prim.Native.Nat.{ℕ, _<_}
+use lib.Dec.{leb}
+use lib.ListN.{length, getD}
+use Rattle.gf2.specs.Polynomial.{_⊕_, zeros}
+use Rattle.dsc.specs.CheckTable.{row, sumOver, coefficient, failures}
+
+-- element i of a row of bits
+abbrev pub at : List Bool → ℕ → Bool
+at f i = getD f i false
+
+-- the coefficients of w by place, with those that shortening fixes at 0
+pub record Coefficients (w c : List Bool) : Type 0 where
+  pub size : length c ≡ 273
+  pub each : (p : ℕ) → p < 273 → at c p ≡ coefficient w p
+
+-- the sum on row s of coefficients by place
+abbrev pub rowSum : List Bool → ℕ → Bool
+rowSum c s = sumOver (at c) (row s)
+
+-- f holds the sum on each row
+pub record RowSums (c f : List Bool) : Type 0 where
+  pub size : length f ≡ 273
+  pub each : (s : ℕ) → s < 273 → at f s ≡ rowSum c s
+
+-- r says that the sums on the first 82 rows are even
+pub record FirstRowsEven (c : List Bool) (r : Bool) : Type 0 where
+  pub even : r ≡ true → (s : ℕ) → s < 82 → rowSum c s ≡ false
+  pub odd : r ≡ false → (s : ℕ) × (s < 82) × (rowSum c s ≡ true)
+
+-- the last bits w of r, each place flipped of whose 17 rows at least nine fail
+abbrev pub flipped : List Bool → List Bool → List Bool
+flipped r [] = []
+flipped r (b ∷ w) = (b ⊕ leb 9 (failures r (length w))) ∷ flipped r w
+
+-- the 208 bits of a frame that holds the word w at B17 to B203 and 0 elsewhere
+abbrev pub padded : List Bool → List Bool
+padded w = zeros 17 ++ (w ++ zeros 4)
