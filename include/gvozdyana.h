@@ -86,7 +86,9 @@ enum gvz_record_index {
 };
 
 /* The repair asked for alone: looks at B17 to B203 of the frame, and refuses 1, then 4. Repaired, word, of GVZ_FRAME_BYTES, holds the code
- * word within eight places, B17 to B203 at their places and 0 elsewhere. Tells the repaired places. */
+ * word within eight places, B17 to B203 at their places and 0 elsewhere. Tells the repaired places. A code word hit in up to eight places comes
+ * back as it was sent; hit in nine it is refused 4; from ten hits on it is refused 4, or the word is another one, and hits and repaired places
+ * make at least 18 together. */
 uint32_t gvz_repair(const uint8_t *frame, size_t frame_len, uint8_t *word, size_t word_len);
 
 /* Reads a frame into a record of GVZ_RECORD_VALUES. Refuses 1 to 9. Tells the repaired places. */

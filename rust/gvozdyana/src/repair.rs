@@ -10,6 +10,9 @@ pub struct Repaired {
 
 /// The repair asked for alone: the code word within eight places of B17 to B203. Refuses 1, then 4.
 ///
+/// A code word hit in up to eight places comes back as it was sent; hit in nine it is refused 4; from ten hits on it is refused 4, or the word is
+/// another one, and hits and repaired places make at least 18 together.
+///
 /// ```
 /// use gvozdyana::{repair, Refusal};
 ///
