@@ -9,18 +9,16 @@ use native.Mathlib.Nat.{suc-inj}
 use native.Mathlib.Omega.{arith}
 use lib.ListN.{length, replicate}
 use borrow.Author.Tests.{eq-eqb}
-use Rattle.gf2.specs.Polynomial.{_⊕_, zeros, add}
+use Rattle.gf2.specs.Polynomial.{zeros, add}
 use Rattle.gf2.proofs.Sum.{length-add, add-to-zeros}
 use Rattle.dsc.specs.Code.{CodeWord, weight, dist}
 use Rattle.dsc.specs.CheckTable.{differences, coefficient, failures}
-use Rattle.dsc.specs.Repair.{protected, wordBytes, repairedTo, refusedWith, repairOf}
-use Rattle.dsc.specs.Worked.{generatorWord, among, SomePlaces}
+use Rattle.dsc.specs.Repair.{protected, wordBytes, refusedWith, repairOf}
 use Rattle.dsc.specs.Promises.{Hit, RefusedOrWrong, refused, wrong, firstTen}
 use Rattle.dsc.proofs.Word.{length-word}
 use Rattle.dsc.proofs.Distance.{Hits, hits, error-failures, dist-triangle, dist-hit, distance18}
 use Rattle.dsc.proofs.Decoding.{Nearest, one, none, nearest}
 use Rattle.dsc.proofs.Answers.{length-protected, length-wordBytes, protected-wordBytes, repair-found, repair-none}
-use Rattle.dsc.proofs.Worked.{worked}
 
 pub held : (c e : List Bool) → CodeWord c → length e ≡ 187 → Hit (weight e) c e (wordBytes (add e c))
 held c e k l =
@@ -58,15 +56,10 @@ module _ {n : ℕ} {c e : List Bool} {f : List ℕ} (h : Hit n c e f) where
       go (one d k w) = wrong d (dist (protected f) d) k (not-sent l d k w) (p (dist (protected f) d) w (from-other l d k w)) w (repair-found f (h .size) d k w)
       go (none z) = refused (repair-none f (h .size) z)
 
--- ---- the zero word, hit in ten places
+-- ---- the zero word: a frame holds the places in which it was hit
 
-zero-hit : (f : List ℕ) (e : List Bool) → Hit 10 (zeros 187) e f → protected f ≡ e
-zero-hit f e h = h .received ∙ ap (λ n. add e (zeros n)) (sym (h .places)) ∙ add-to-zeros e
-
-pub ten-wrong : (f : List ℕ) (e : List Bool) → Hit 10 (zeros 187) e f → among e generatorWord ≡ true → repairOf f ≡ repairedTo generatorWord 8
-ten-wrong f e h a =
-    let r : protected f ≡ e = zero-hit f e h in
-    worked .example5 f (record { size = h .size; places = ap (λ w. among w generatorWord) r ∙ a; number = ap weight r ∙ h .number })
+pub zero-hit : {n : ℕ} {e : List Bool} {f : List ℕ} → Hit n (zeros 187) e f → protected f ≡ e
+zero-hit {e = e} h = h .received ∙ ap (λ n. add e (zeros n)) (sym (h .places)) ∙ add-to-zeros e
 
 -- ---- B17 to B26: ten of the rows through B17 fail, so a code word within eight places was hit there, and has 0. It is then within seven
 -- ---- places of B18 to B26, and these are nine from the zero word.
@@ -111,7 +104,7 @@ within-seven true c l e w =
 
 pub ten-refused : (f : List ℕ) → Hit 10 (zeros 187) firstTen f → repairOf f ≡ refusedWith 4
 ten-refused f h =
-    repair-none f (h .size) (λ c k w. none-near c k (subst (λ r. dist r c ≤ 8) (zero-hit f firstTen h) w) (not-sent h (omega arith) c k w))
+    repair-none f (h .size) (λ c k w. none-near c k (subst (λ r. dist r c ≤ 8) (zero-hit h) w) (not-sent h (omega arith) c k w))
   where
     none-near : (c : List Bool) → CodeWord c → dist firstTen c ≤ 8 → c ≢ zeros 187 → ⊥
     none-near [] k w ne = omega (arith, length-word [] k)

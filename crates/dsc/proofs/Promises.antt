@@ -8,11 +8,12 @@ use native.Mathlib.Omega.{arith}
 use lib.Dec.{eqb}
 use lib.ListN.{length}
 use borrow.Author.Tests.{eqb-true, eqb-false}
-use Rattle.gf2.specs.Polynomial.{add}
+use Rattle.gf2.specs.Polynomial.{zeros, add}
 use Rattle.gf2.proofs.Sum.{length-add}
 use Rattle.dsc.specs.Code.{CodeWord, weight, dist}
 use Rattle.dsc.specs.Repair.{protected, wordBytes, decode, repairedTo, answerTo, numberOf, repairOf}
-use Rattle.dsc.specs.Promises.{NoneWithinEight, Demand3, BeyondEight, CodeLaws}
+use Rattle.dsc.specs.Worked.{generatorWord, among}
+use Rattle.dsc.specs.Promises.{NoneWithinEight, Demand3, Hit, BeyondEight, CodeLaws}
 use Rattle.dsc.proofs.Word.{length-word, parity-word, parity-only}
 use Rattle.dsc.proofs.CheckRows.{word-even}
 use Rattle.dsc.proofs.Incidence.{on-seventeen, share-one}
@@ -20,7 +21,8 @@ use Rattle.dsc.proofs.EvenRows.{even-word}
 use Rattle.dsc.proofs.Distance.{dist-hit, dist-same, distance18, only-one}
 use Rattle.dsc.proofs.Encoding.{encoded-word, encoded-message, encoded-only}
 use Rattle.dsc.proofs.Answers.{length-wordBytes, protected-wordBytes, repair-short, repair-decoded, repair-found, repair-none, repairs, repairs-only}
-use Rattle.dsc.proofs.BeyondEight.{held, from-other, refused-or-wrong, ten-wrong, ten-refused}
+use Rattle.dsc.proofs.BeyondEight.{held, from-other, refused-or-wrong, zero-hit, ten-refused}
+use Rattle.dsc.proofs.Worked.{worked}
 
 gives-sent-word : (f : List ℕ) (c e : List Bool) → length f ≡ 26 → CodeWord c → length e ≡ 187 → weight e ≤ 8
     → protected f ≡ add e c → repairOf f ≡ repairedTo c (weight e)
@@ -70,6 +72,11 @@ demand3 =
           repair-decoded f hf (decode (protected f)) refl ∙ ap (λ r. answerTo r (decode r)) e ∙ sym (repair-decoded g hg (decode (protected g)) refl);
       repaired-is-clean = repaired-is-clean;
     }
+
+ten-wrong : (f : List ℕ) (e : List Bool) → Hit 10 (zeros 187) e f → among e generatorWord ≡ true → repairOf f ≡ repairedTo generatorWord 8
+ten-wrong f e h a =
+    let r : protected f ≡ e = zero-hit h in
+    worked .example5 f (record { size = h .size; places = ap (λ w. among w generatorWord) r ∙ a; number = ap weight r ∙ h .number })
 
 pub beyond-eight : BeyondEight
 beyond-eight =

@@ -8,15 +8,14 @@ use native.Mathlib.Nat.{suc-inj}
 use native.Mathlib.Omega.{arith}
 use lib.Dec.{leb}
 use lib.ListN.{length}
-use borrow.Author.Tests.{eq-eqb, ne-eqb, le-leb, lt-leb, leb-true, leb-false}
+use borrow.Author.Tests.{eq-eqb, ne-eqb, le-leb, lt-leb}
 use Rattle.gf2.specs.Polynomial.{_⊕_, add}
-use Rattle.gf2.proofs.Sum.{xor-false, xor-self, length-add}
-use Rattle.dsc.specs.Code.{CodeWord, dist, isCodeWord}
-use Rattle.dsc.specs.CheckTable.{coefficient, syndrome, failures}
+use Rattle.gf2.proofs.Sum.{xor-self, length-add}
+use Rattle.dsc.specs.Code.{CodeWord, dist}
+use Rattle.dsc.specs.CheckTable.{coefficient, failures}
 use Rattle.dsc.specs.Repair.{beyond, decode}
 use Rattle.dsc_codec.specs.Engine.{flipped}
-use Rattle.dsc.proofs.Word.{length-word, word-tested, tested-word}
-use Rattle.dsc.proofs.CheckRows.{syndrome-add, word-even, rows-same}
+use Rattle.dsc.proofs.Word.{length-word}
 use Rattle.dsc.proofs.Distance.{Hits, hits, error-failures}
 use Rattle.dsc.proofs.Decoding.{decode-none}
 
