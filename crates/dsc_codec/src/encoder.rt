@@ -1,4 +1,4 @@
-// The encoder: the parity of a message, by long division.
+// The encoder: the parity of a message, by long division. Only this crate calls it, always with a word of 187 bits, which it therefore requires.
 ghost use mathlib.Core.Path.{_≡_};
 ghost use mathlib.Core.List.{_++_};
 ghost use Prim.Native.Nat.{_+_, _<_, _≤_};

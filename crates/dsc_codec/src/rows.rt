@@ -1,4 +1,5 @@
-// The sums of a word on the rows of the check table, and the majority of the rows through each place.
+// The sums of a word on the rows of the check table, and the majority of the rows through each place. Only this crate calls these functions, always
+// with the check table and a word of 187 bits, which they therefore require.
 ghost use mathlib.Core.Path.{_≡_};
 ghost use Prim.Native.Nat.{ℕ, _+_, _-_, _%_, _<_};
 ghost use lib.ListN.{length, getD};

@@ -1,4 +1,5 @@
-// Words of 187 bits: out of a frame's bytes, into bytes, and how many places two of them differ in.
+// Words of 187 bits: out of a frame's bytes, into bytes, and how many places two of them differ in. Only this crate calls these functions; it has
+// tested the frame's length before, so they require the sizes and test nothing.
 ghost use mathlib.Core.Path.{_≡_};
 ghost use Prim.Native.Nat.{_+_, _*_, _<_, _≤_};
 ghost use lib.ListN.{length, take, drop};

@@ -1,5 +1,5 @@
 // The cable header, read, written, laid into and taken out of, on headers and records of every sort: each field's place, each refusal alone and several at
-// once, lengths about 188, each bit turned over.
+// once, lengths about 188, each bit turned over. What these functions answer is compared by what the program writes, so they promise only to be safe and to end.
 mod headers;
 mod lay;
 mod output;
