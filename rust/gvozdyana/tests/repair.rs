@@ -16,7 +16,7 @@ fn compared(frame: &[u8], case: Case) -> Result<Repaired, Refusal> {
 
 #[test]
 fn code_words_hit_in_up_to_14_places() {
-    for_each_seed(1, frames() * 40 / 100, |random, case| {
+    for_each_seed(1, frames() * 60 / 100, |random, case| {
         let hits = random.below(15);
         let (sent, frame) = sent_and_hit(hits, random);
         let told = compared(&frame, case);

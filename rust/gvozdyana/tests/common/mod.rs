@@ -4,7 +4,7 @@ use gvozdyana::Refusal;
 use samples::Random;
 use std::fmt;
 
-/// How many frames, and how many headers, each file of tests compares unless it is told otherwise.
+/// The number of frames, and of headers, that each test takes a share of unless it is told otherwise: a file compares so many or a little more.
 const FRAMES: u64 = 500_000;
 const HEADERS: u64 = 100_000;
 
