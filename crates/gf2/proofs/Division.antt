@@ -122,3 +122,16 @@ module _ (g m r : List Bool) (h : length r ≡ length g) where
 
 pub check-word : (g m : List Bool) → remainder g (length m) (m ++ checkBits g m) ≡ zeros (length g)
 check-word g m = remainder-joined g m (checkBits g m) (length-check g m) ∙ add-same (checkBits g m) ∙ ap zeros (length-check g m)
+
+-- the check bits of a sum
+pub check-add : (g u w : List Bool) → length u ≡ length w → checkBits g (add u w) ≡ add (checkBits g u) (checkBits g w)
+unfolding checkBits
+check-add g u w l =
+    let z = zeros (length g) in
+    let n = length w in
+    let long : (x : List Bool) → length x ≡ n → length (x ++ z) ≡ n + length g =
+    λ x e. length-append x z ∙ ap₂ _+_ e (length-replicate (length g) false) in
+    let whole : add u w ++ z ≡ add (u ++ z) (w ++ z) = sym (add-append u z w z l ∙ ap (add u w ++_) (add-zeros (length g) z)) in
+    ap₂ (remainder g) (length-add u w) whole
+    ∙ remainder-add g n (u ++ z) (w ++ z) (long u l) (long w refl)
+    ∙ ap (λ k. add (remainder g k (u ++ z)) (checkBits g w)) (sym l)

@@ -9,8 +9,8 @@ use lib.ListN.{length, getD, take, length-append, length-replicate}
 use lib.Seq.{getD-append-seam, take-at}
 use Rattle.gf2.specs.Polynomial.{_⊕_, zeros, add, scale, remainder, checkBits}
 use Rattle.gf2.specs.Register.{step, feed}
-use Rattle.gf2.proofs.Sum.{xor-false, xor-same, xor-none, length-add, length-scale, add-zeros, add-to-zeros, add-assoc, add-append, add-shifted, add-to-more, getD-add, getD-scale}
-use Rattle.gf2.proofs.Division.{remainder-low}
+use Rattle.gf2.proofs.Sum.{xor-false, xor-same, xor-none, length-add, length-scale, add-zeros, add-to-zeros, add-assoc, add-append, add-shifted, add-over, add-to-more, getD-add, getD-scale}
+use Rattle.gf2.proofs.Division.{remainder-low, check-add}
 
 -- ---- lengths, and rows of bits
 
@@ -151,3 +151,28 @@ feed-high g hi lo m n lg h eh el =
     let b : feed g (zeros n) p ≡ remainder g k (p ++ z) =
     feed-remainder g (zeros n) p (length-replicate n false ∙ sym lg) (omega arith) ∙ ap₂ (remainder g) lp (add-zeros n (p ++ z)) in
     feed-remainder g (hi ++ lo) m lr (omega arith) ∙ ap (remainder g k) (a₁ ∙ sym a₂) ∙ remainder-low g k e (p ++ z) ∙ ap (add e) (sym b)
+
+-- as many bits as the register has, or more: it is added to the first of them
+pub feed-long : (g r m : List Bool) → length r ≡ length g → 0 < length g → length g ≤ length m → feed g r m ≡ checkBits g (add r m)
+unfolding checkBits
+feed-long g r m e h l = feed-remainder g r m e h ∙ ap₂ (remainder g) (sym (length-add r m)) (add-over r m (zeros (length g)) (omega arith))
+
+-- zeros before a message leave its check bits as they are
+pub check-after-zeros : (g : List Bool) (k : ℕ) (m : List Bool) → 0 < length g → checkBits g (zeros k ++ m) ≡ checkBits g m
+check-after-zeros g k m h =
+    let z = zeros (length g) in
+    sym (feed-check g (zeros k ++ m) h) ∙ feed-append g z (zeros k) m ∙ ap (λ r. feed g r m) (feed-zeros g (length g) k) ∙ feed-check g m h
+
+-- the check bits of x and then y: of x with zeros in the place of y, and of y
+pub check-append : (g x y : List Bool) → 0 < length g → checkBits g (x ++ y) ≡ add (checkBits g (x ++ zeros (length y))) (checkBits g y)
+check-append g x y h =
+    let front = x ++ zeros (length y) in
+    let back = zeros (length x) ++ y in
+    let lf : length front ≡ length x + length y = length-append x (zeros (length y)) ∙ ap (length x +_) (length-replicate (length y) false) in
+    let lb : length back ≡ length x + length y = length-append (zeros (length x)) y ∙ ap (_+ length y) (length-replicate (length x) false) in
+    let parts : add front back ≡ x ++ y =
+    add-append x (zeros (length y)) (zeros (length x)) y (sym (length-replicate (length x) false))
+    ∙ ap₂ _++_ (add-to-zeros x) (add-zeros (length y) y) in
+    ap (checkBits g) (sym parts)
+    ∙ check-add g front back (lf ∙ sym lb)
+    ∙ ap (add (checkBits g front)) (check-after-zeros g (length x) y h)

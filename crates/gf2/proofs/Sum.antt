@@ -136,6 +136,13 @@ add-shifted [] k w = add-zeros k w
 add-shifted (a ∷ u) k [] = refl
 add-shifted (a ∷ u) k (b ∷ w) = ap ((a ⊕ b) ∷_) (add-shifted u k w)
 
+-- what stands below w is not reached by a shorter u
+pub add-over : (u w z : List Bool) → length u ≤ length w → add u (w ++ z) ≡ add u w ++ z
+unfolding add
+add-over [] w z h = refl
+add-over (a ∷ u) [] z h = absurd (not-suc-le-zero h)
+add-over (a ∷ u) (b ∷ w) z h = ap ((a ⊕ b) ∷_) (add-over u w z (le-of-suc-le-suc h))
+
 pub add-to-more : (u : List Bool) (k : ℕ) → add u (zeros (length u + k)) ≡ u ++ zeros k
 unfolding add
 add-to-more u k = ap (add u) (sym (replicate-append-replicate (length u) k false)) ∙ front u
