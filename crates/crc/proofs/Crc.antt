@@ -130,7 +130,7 @@ length-g32 = length-bitsOf 32 0x04C11DB7
 length-ones32 : length ones32 ≡ length g32
 length-ones32 = length-bitsOf 32 0xFFFFFFFF ∙ sym length-g32
 
-some32 : 0 < length g32
+pub some32 : 0 < length g32
 some32 = rw length-g32 (lit< tt)
 
 last32 : getD g32 31 false ≡ true

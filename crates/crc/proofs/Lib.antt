@@ -1,5 +1,7 @@
 pub mod Number
+pub mod Lookup
 pub mod Table
 pub mod Turn
+pub mod Group
 pub mod Crc
 pub mod Examples

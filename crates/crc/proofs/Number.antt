@@ -1,17 +1,17 @@
 -- Rows of bits: their sums as numbers, and wider rows. Assumes nothing.
-use mathlib.Core.Path.{_≡_, refl, sym, ap, _∙_}
+use mathlib.Core.Path.{_≡_, refl, sym, ap, ap₂, _∙_}
 use mathlib.Core.Bool.{Bool, true, false}
 use mathlib.Core.List.{List, [], _∷_, _++_}
-use Prim.Native.Nat.{ℕ, _+_, _*_, _^_, _<_}
-use native.Mathlib.Nat.{lt-of-lt-of-le}
+use Prim.Native.Nat.{ℕ, _+_, _*_, _%_, _^_, _<_}
+use native.Mathlib.Nat.{lt-of-lt-of-le, mod-mod}
 use native.Mathlib.Omega.{arith}
 use lib.ListN.{length, length-append, length-replicate}
-use lib.Bits.{bitXor, xor-block}
+use lib.Bits.{bitXor, xor-block, xor-mod}
 use lib.Pow.{pow-mono}
 use Rattle.gf2.specs.Polynomial.{_⊕_, zeros, add}
 use Rattle.gf2.proofs.Sum.{length-add}
 use Rattle.bits.specs.Bits.{digit, value, bitsOf}
-use Rattle.bits.proofs.Bits.{length-bitsOf, value-lt, value-inj, value-append, value-zeros, value-bitsOf-fit}
+use Rattle.bits.proofs.Bits.{length-bitsOf, value-lt, value-inj, value-append, value-zeros, value-bitsOf, value-bitsOf-fit}
 
 xor-digit : (a b : Bool) → bitXor (digit a) (digit b) ≡ digit (a ⊕ b)
 unfolding digit
@@ -41,3 +41,19 @@ bitsOf-wider j k v h =
     let w : v < 2 ^ (j + k) = lt-of-lt-of-le h (pow-mono {i = k} {j = j + k} (omega arith)) in
     value-inj (bitsOf (j + k) v) (zeros j ++ bitsOf k v) l
     (value-bitsOf-fit (j + k) v w ∙ sym (value-append (zeros j) (bitsOf k v) ∙ rw (value-zeros j, value-bitsOf-fit k v h) (omega arith)))
+
+-- the sum of the low bits of two numbers
+pub add-bitsOf : (k x y : ℕ) → add (bitsOf k x) (bitsOf k y) ≡ bitsOf k (bitXor x y)
+add-bitsOf k x y =
+    let lx = length-bitsOf k x in
+    let ly = length-bitsOf k y in
+    value-inj (add (bitsOf k x) (bitsOf k y)) (bitsOf k (bitXor x y)) (length-add (bitsOf k x) (bitsOf k y) ∙ ly ∙ sym (length-bitsOf k (bitXor x y)))
+    (value-add (bitsOf k x) (bitsOf k y) (lx ∙ sym ly)
+    ∙ ap₂ bitXor (value-bitsOf k x) (value-bitsOf k y)
+    ∙ sym (value-bitsOf k (bitXor x y) ∙ xor-mod x y k))
+
+-- higher bits do not count
+pub bitsOf-low : (k v : ℕ) → bitsOf k (v % 2 ^ k) ≡ bitsOf k v
+bitsOf-low k v =
+    value-inj (bitsOf k (v % 2 ^ k)) (bitsOf k v) (length-bitsOf k (v % 2 ^ k) ∙ sym (length-bitsOf k v))
+    (value-bitsOf k (v % 2 ^ k) ∙ mod-mod v (2 ^ k) ∙ sym (value-bitsOf k v))

@@ -1,21 +1,20 @@
--- Several bits into a register at once, as numbers: shift, add the table's entry. Assumes nothing.
+-- Several bits into a register at once, as numbers: shift, add the remainder of what leaves it. Assumes nothing.
 use mathlib.Core.Path.{_≡_, sym, ap, ap₂, _∙_}
 use mathlib.Core.Bool.{Bool, false}
-use mathlib.Core.List.{List, _++_}
+use mathlib.Core.List.{List, _++_, append-nil}
 use Prim.Native.Nat.{ℕ, _+_, _-_, _*_, _/_, _%_, _^_, _≤_, _<_}
-use native.Mathlib.Nat.{lt-of-lt-of-le}
 use native.Mathlib.Omega.{arith}
-use lib.ListN.{length, getD, take, drop, length-append, length-drop, length-replicate, take-append-drop}
+use lib.ListN.{length, take, drop, length-append, length-drop, length-replicate, take-append-drop}
 use lib.Seq.{length-take-le}
 use lib.Bits.{bitXor, xor-lt}
-use lib.Pow.{high, low, pow-add, pow-mono, shl-lt, shr-lt}
-use Rattle.gf2.specs.Polynomial.{zeros, add}
+use lib.Pow.{high, low, pow-add, shl-lt, shr-lt}
+use Rattle.gf2.specs.Polynomial.{zeros, add, checkBits}
 use Rattle.gf2.specs.Register.{feed}
 use Rattle.gf2.proofs.Sum.{length-add}
 use Rattle.gf2.proofs.Register.{length-feed, feed-append, feed-high, feed-check, feed-zeros}
 use Rattle.bits.specs.Bits.{value, bitsOf}
 use Rattle.bits.proofs.Bits.{length-bitsOf, value-lt, value-append, value-zeros, bitsOf-value, value-bitsOf-fit}
-use Rattle.crc.specs.Remainders.{Remainders}
+use Rattle.crc.specs.Remainders.{remainderOf}
 use Rattle.crc.proofs.Number.{value-add, bitsOf-wider}
 
 -- a register of j + k bits: its k high bits, and the j that stay when k come in
@@ -70,17 +69,16 @@ feed-number g r m n j k lg lr lm e pos =
     ∙ value-add (lo ++ zeros k) (feed g (zeros n) (add hi m)) l
     ∙ ap₂ bitXor (sym (ap (λ x. value r * 2 ^ k % 2 ^ x) (sym e) ∙ value-shifted r j k s)) (ap (λ x. value (feed g (zeros n) x)) i)
 
--- a table of the remainders of eight bits has those of fewer: leading zeros leave a register of zeros as it is
-table-entry : (g : List Bool) (t : List ℕ) (n k i : ℕ) → Remainders g t → length g ≡ n → 0 < n → k ≤ 8 → i < 2 ^ k
-    → getD t i 0 ≡ value (feed g (zeros n) (bitsOf k i))
-table-entry g t n k i rs lg pos hk hi =
+-- the remainder of a byte is that of fewer bits: leading zeros leave a register of zeros as it is
+remainder-feed : (g : List Bool) (n k i : ℕ) → length g ≡ n → 0 < n → k ≤ 8 → i < 2 ^ k → remainderOf g 0 i ≡ value (feed g (zeros n) (bitsOf k i))
+unfolding remainderOf
+remainder-feed g n k i lg pos hk hi =
     let j = 8 - k in
     let e : j + k ≡ 8 = omega arith in
-    let small : i < 256 = lt-of-lt-of-le hi (pow-mono {i = k} {j = 8} hk) in
     let w : bitsOf 8 i ≡ zeros j ++ bitsOf k i = ap (λ a. bitsOf a i) (sym e) ∙ bitsOf-wider j k i hi in
-    rs .entry i small
-    ∙ ap value
-    (sym (feed-check g (bitsOf 8 i) (rw lg pos))
+    ap value
+    (ap (checkBits g) (append-nil (bitsOf 8 i))
+    ∙ sym (feed-check g (bitsOf 8 i) (rw lg pos))
     ∙ ap₂ (λ a x. feed g (zeros a) x) lg w
     ∙ feed-append g (zeros n) (zeros j) (bitsOf k i)
     ∙ ap (λ x. feed g x (bitsOf k i)) (feed-zeros g n j))
@@ -92,9 +90,25 @@ module _ (v w n j k : ℕ) (e : j + k ≡ n) (hv : v < 2 ^ n) (hw : w < 2 ^ k) w
       let s : k + j ≡ n = omega arith in
       xor-lt k (v / 2 ^ j) w (shr-lt k j (rw s hv)) hw
 
-  pub turn : (g : List Bool) (t : List ℕ) → Remainders g t → length g ≡ n → 0 < n → k ≤ 8
-      → bitXor (v * 2 ^ k % 2 ^ n) (getD t (bitXor (v / 2 ^ j) w) 0) ≡ value (feed g (bitsOf n v) (bitsOf k w))
-  turn g t rs lg pos hk =
+  pub turn : (g : List Bool) → length g ≡ n → 0 < n → k ≤ 8
+      → bitXor (v * 2 ^ k % 2 ^ n) (remainderOf g 0 (bitXor (v / 2 ^ j) w)) ≡ value (feed g (bitsOf n v) (bitsOf k w))
+  turn g lg pos hk =
       let q = feed-number g (bitsOf n v) (bitsOf k w) n j k lg (length-bitsOf n v) (length-bitsOf k w) e pos in
-      ap (bitXor (v * 2 ^ k % 2 ^ n)) (table-entry g t n k (bitXor (v / 2 ^ j) w) rs lg pos hk index-lt)
+      ap (bitXor (v * 2 ^ k % 2 ^ n)) (remainder-feed g n k (bitXor (v / 2 ^ j) w) lg pos hk index-lt)
       ∙ sym (rw (value-bitsOf-fit n v hv, value-bitsOf-fit k w hw) at q)
+
+-- ---- the register as a number
+
+-- no bits leave it
+pub feed-nothing : (g : List Bool) (n r v : ℕ) → r < 2 ^ n → value (feed g (bitsOf n r) (bitsOf 0 v)) ≡ r
+unfolding feed bitsOf
+feed-nothing g n r v h = value-bitsOf-fit n r h
+
+-- after the bits x it takes in y
+pub feed-more : (g : List Bool) (n r z : ℕ) (x y : List Bool) → z ≡ value (feed g (bitsOf n r) x)
+    → value (feed g (bitsOf n z) y) ≡ value (feed g (bitsOf n r) (x ++ y))
+feed-more g n r z x y e =
+    let f = feed g (bitsOf n r) x in
+    let l : length f ≡ n = length-feed g (bitsOf n r) x ∙ length-bitsOf n r in
+    let held : bitsOf n z ≡ f = ap (bitsOf n) e ∙ ap (λ k. bitsOf k (value f)) (sym l) ∙ bitsOf-value f in
+    ap value (ap (λ b. feed g b y) held ∙ sym (feed-append g (bitsOf n r) x y))

@@ -1,4 +1,4 @@
--- `crc::crc32` meets its contract: the register is the CRC of the bytes passed. Assumes nothing.
+-- `crc::crc32` meets its contract: after the whole groups the register is the CRC of the bytes passed. Assumes nothing.
 use mathlib.Core.Path.{_≡_, sym, ap, _∙_}
 use mathlib.Core.List.{_++_}
 use Prim.Native.Nat.{_+_, _-_, _≤_}
@@ -11,28 +11,30 @@ use lib.Seq.{take-suc, take-all}
 use Rattle.bits.specs.Bits.{bits, bitsOf}
 use Rattle.bits.proofs.Bits.{bits-snoc}
 use Rattle.crc.specs.Crc.{crc32Of}
-use Rattle.crc.proofs.Crc.{crc32-none, crc32-turn}
+use Rattle.crc.proofs.Crc.{crc32-turn}
 use Rattle.crc.proofs.crc32.Statement.{statement}
 use Rattle.crc.proofs.crc32.Tie as tie
 
 abbrev Inv-loop : tie.InvT-loop
-Inv-loop s t r₀ i₀ r i = (i ≤ length s) × (r ≡ crc32Of (bits (take i s)))
+Inv-loop s r₀ i₀ r i = (i ≤ length s) × (r ≡ crc32Of (bits (take i s)))
 
 abbrev μ-loop : tie.MeasureT-loop
-μ-loop s t r₀ i₀ r i = length s - i
+μ-loop s r₀ i₀ r i = length s - i
 
-table-requires : tie.Need-table-requires Inv-loop μ-loop
-table-requires c κs = search needs
+feed-groups-requires : tie.Need-feed-groups-requires Inv-loop μ-loop
+feed-groups-requires c κs = search needs
+
+mul-i : tie.Need-mul-i Inv-loop μ-loop
+mul-i c = omega arith
 
 loop-holds : tie.Need-loop-holds Inv-loop μ-loop
-unfolding bits
-loop-holds c = (omega arith, sym crc32-none)
+loop-holds c = (omega arith, c .feed-groups .ensures)
 
-shared-slice-read-feed32 : tie.Need-shared-slice-read-feed32 Inv-loop μ-loop
-shared-slice-read-feed32 c = omega arith
+shared-slice-read-feed-byte : tie.Need-shared-slice-read-feed-byte Inv-loop μ-loop
+shared-slice-read-feed-byte c = omega arith
 
-feed32-requires : tie.Need-feed32-requires Inv-loop μ-loop
-feed32-requires c κs = c .before .before .before .before .table .ensures
+feed-byte-requires : tie.Need-feed-byte-requires Inv-loop μ-loop
+feed-byte-requires c κs = search needs
 
 add-i : tie.Need-add-i Inv-loop μ-loop
 add-i c = omega arith
@@ -42,12 +44,12 @@ loop-less c = omega arith
 
 loop-again : tie.Need-loop-again Inv-loop μ-loop
 loop-again c =
-    let s = now (c .before .before .before .before .before .before .before .args .s) in
-    let l = c .before .before .before .before .loop in
+    let s = now (c .before .before .before .before .before .before .args .s) in
+    let l = c .before .before .before .loop in
     let i = l .i in
     let m : bits (take (i + 1) s) ≡ bits (take i s) ++ bitsOf 8 (getD s i 0) =
     ap (λ n. bits (take n s)) (add-one i) ∙ ap bits (take-suc s i 0 (omega arith)) ∙ bits-snoc (take i s) (getD s i 0) in
-    (omega arith, c .feed32 .ensures ∙ crc32-turn (bits (take i s)) (bitsOf 8 (getD s i 0)) (l .r) (l .inv .1) ∙ ap crc32Of (sym m))
+    (omega arith, c .feed-byte .ensures ∙ crc32-turn (bits (take i s)) (bitsOf 8 (getD s i 0)) (l .r) (l .inv .1) ∙ ap crc32Of (sym m))
 
 returns : tie.Need-returns Inv-loop μ-loop
 returns c =
@@ -61,10 +63,11 @@ crc32-spec =
     (tie.spec
     Inv-loop
     μ-loop
-    table-requires
+    feed-groups-requires
+    mul-i
     loop-holds
-    shared-slice-read-feed32
-    feed32-requires
+    shared-slice-read-feed-byte
+    feed-byte-requires
     add-i
     loop-less
     loop-again

@@ -1,6 +1,6 @@
 -- `crc::feed10` meets its contract. Assumes nothing.
 use mathlib.Core.Path.{ap, _∙_}
-use Prim.Native.Nat.{_-_, _*_, _/_, _<_, _^_}
+use Prim.Native.Nat.{_-_, _*_, _/_, _%_, _<_, _^_}
 use native.Mathlib.Nat.{lt-of-lt-of-le}
 use native.Mathlib.Omega.{arith}
 use borrow.Author.Needs.{needs}
@@ -50,7 +50,8 @@ returns c =
     let a = c .before .args in
     let p = c .before .pre in
     ap (λ x. bitXor x (getD (now (a .t)) (bitXor (a .r / 2 ^ (10 - a .k)) (a .v)) 0)) (mod-mod-pow (a .r * 2 ^ a .k) 6 10)
-    ∙ turn (a .r) (a .v) 10 (10 - a .k) (a .k) (omega arith) (p .1) (p .3) g10 (now (a .t)) (p .0) length-g10 (lit< tt) (p .2)
+    ∙ ap (bitXor (a .r * 2 ^ a .k % 1024)) (p .0 .entry (bitXor (a .r / 2 ^ (10 - a .k)) (a .v)) (index (c .before)))
+    ∙ turn (a .r) (a .v) 10 (10 - a .k) (a .k) (omega arith) (p .1) (p .3) g10 length-g10 (lit< tt) (p .2)
 
 pub feed10-spec : {M : Type 1} → statement M
 feed10-spec =

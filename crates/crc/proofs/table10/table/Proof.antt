@@ -3,12 +3,13 @@ use mathlib.Core.Path.{refl}
 use Rattle.gf2.specs.Polynomial.{member, poly, add, scale, remainder, checkBits}
 use Rattle.bits.specs.Bits.{digit, odd, value, bitsOf}
 use Rattle.crc.specs.Crc.{g10}
+use Rattle.crc.specs.Remainders.{remainderOf}
 use Rattle.crc.proofs.Table.{remainders}
 use Rattle.crc.proofs.table10.table.Statement.{statement}
 use Rattle.crc.proofs.table10.table.Tie as tie
 
 returns : tie.Need-returns
-unfolding checkBits remainder add scale poly member bitsOf odd value digit
+unfolding remainderOf checkBits remainder add scale poly member bitsOf odd value digit
 returns c = remainders g10 _ refl tt
 
 pub table-spec : {M : Type 1} → statement M

@@ -1,0 +1,27 @@
+-- `crc::feed_bit` meets its contract. Assumes nothing.
+use mathlib.Core.Path.{refl, ap, _∙_}
+use Prim.Native.Nat.{_*_, _/_, _%_, _^_, _<_}
+use native.Mathlib.Omega.{arith}
+use lib.Bits.{bitXor}
+use lib.Dec.{lit<, lit≤}
+use Rattle.crc.specs.Crc.{g32}
+use Rattle.crc.proofs.Crc.{length-g32}
+use Rattle.crc.proofs.Table.{remainder-bit}
+use Rattle.crc.proofs.Turn.{index-lt, turn}
+use Rattle.crc.proofs.feed_bit.Statement.{statement}
+use Rattle.crc.proofs.feed_bit.Tie as tie
+
+leaving : (c : tie.Start) → bitXor (c .args .r / 2 ^ 31) (c .args .b) < 2
+leaving c = index-lt (c .args .r) (c .args .b) 32 31 1 refl (omega arith) (c .pre)
+
+mul-result : tie.Need-mul-result
+mul-result c = omega (arith, leaving c)
+
+returns : tie.Need-returns
+returns c =
+    let a = c .args in
+    ap (bitXor (a .r * 2 ^ 1 % 2 ^ 32)) (remainder-bit (bitXor (a .r / 2 ^ 31) (a .b)) (leaving c))
+    ∙ turn (a .r) (a .b) 32 31 1 refl (omega arith) (c .pre) g32 length-g32 (lit< tt) (lit≤ tt)
+
+pub feed-bit-spec : {M : Type 1} → statement M
+feed-bit-spec = tie.close (tie.spec mul-result returns)
