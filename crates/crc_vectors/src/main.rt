@@ -40,11 +40,11 @@ fn agree10(s: &[u8], from: usize) -> bool {
     true
 }
 
-// Whether they agree on the first i bytes of s, for each i below its length and 100.
+// Whether they agree on the first i bytes of s, for each i below its length, up to 400.
 fn agree32(s: &[u8]) -> bool {
     let mut i = 0;
     while i < s.len() {
-        if i == 100 {
+        if i == 401 {
             return true;
         }
         let front = &s[..i];
@@ -78,8 +78,33 @@ fn model() -> [u8; 180] {
     h
 }
 
+fn clear() -> [u8; 401] {
+    [0u8; 401]
+}
+
+// Bytes without a pattern, by a generator of pseudorandom numbers.
+fn mix(row: &mut [u8; 401]) {
+    let mut x: u32 = 1;
+    let mut i = 0;
+    while i < 401 {
+        x = (x * 20_077 + 12_345) % 65_536;
+        row[i] = (x / 256) as u8;
+        i += 1;
+    }
+}
+
+fn mixed() -> [u8; 401] {
+    let mut row = clear();
+    mix(&mut row);
+    row
+}
+
 fn header_crc(h: &[u8; 180]) -> u32 {
     crc::crc32(h)
+}
+
+fn row_agrees(row: &[u8; 401]) -> bool {
+    agree32(row)
 }
 
 fn line(text: &[u8], n: u64, digits: usize) {
@@ -110,6 +135,7 @@ fn main() {
     let digits = b"123456789";
     let words = b"The quick brown fox";
     let header = model();
+    let row = mixed();
     line10(b"CRC-10 of 123456789: ", crc::crc10(digits, 0, 72));
     line10(b"CRC-10 of nothing: ", crc::crc10(&nothing, 0, 91));
     line10(b"CRC-10 past the end: ", crc::crc10(digits, 1 << 63, 91));
@@ -124,4 +150,5 @@ fn main() {
     answer(b"CRC-10 as bit by bit from bit 21: ", agree10(words, 21));
     answer(b"CRC-10 as bit by bit past the end: ", agree10(words, 150));
     answer(b"CRC-32 as bit by bit: ", agree32(words));
+    answer(b"CRC-32 as bit by bit, 0 to 400 bytes: ", row_agrees(&row));
 }

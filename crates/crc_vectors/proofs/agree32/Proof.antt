@@ -9,10 +9,10 @@ use Rattle.crc_vectors.proofs.agree32.Statement.{statement}
 use Rattle.crc_vectors.proofs.agree32.Tie as tie
 
 abbrev Inv-loop : tie.InvT-loop
-Inv-loop s i₀ i = i ≤ 100
+Inv-loop s i₀ i = i ≤ 401
 
 abbrev μ-loop : tie.MeasureT-loop
-μ-loop s i₀ i = 100 - i
+μ-loop s i₀ i = 401 - i
 
 loop-holds : tie.Need-loop-holds Inv-loop μ-loop
 loop-holds c = search needs
