@@ -448,6 +448,18 @@ static void test_laying(void)
     expect_take_out("a header of 187", laid, 187, GVZ_WRONG_LENGTH, laid);
 }
 
+static void test_crc32(void)
+{
+    static const uint8_t digits[] = "123456789";
+    uint8_t header[GVZ_HEADER_BYTES];
+    model_header(header, 0xE760A571);
+
+    expect("the published check value", gvz_crc32(digits, 9) == 0x0376E6E7);
+    expect("the CRC of nothing", gvz_crc32(digits, 0) == 0xFFFFFFFF);
+    expect("the CRC of the model header", gvz_crc32(header + 4, 180) == 0xE760A571);
+    expect("with its own CRC it comes out zero", gvz_crc32(header + 4, 184) == 0);
+}
+
 int main(void)
 {
     test_repair();
@@ -460,6 +472,7 @@ int main(void)
     test_header_read();
     test_header_write();
     test_laying();
+    test_crc32();
     if (failures == 0) {
         printf("c: all answers are as expected\n");
     }

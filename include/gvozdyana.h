@@ -4,8 +4,8 @@
  * beside the length 0; it is good for as many elements as the length says; and what a function writes overlaps nothing else that it is
  * handed.
  *
- * Each returns a status: the refusal's number in the low 8 bits, 0 where nothing was refused, and above them what else it tells. A refusal
- * leaves every buffer as it was. A record, place or word whose length is not the one given here is refused with 1 before anything else is
+ * Each but gvz_crc32 returns a status: the refusal's number in the low 8 bits, 0 where nothing was refused, and above them what else it tells.
+ * A refusal leaves every buffer as it was. A record, place or word whose length is not the one given here is refused with 1 before anything else is
  * looked at; frames and headers of another length get their 1 where document 01 tests it.
  */
 #ifndef GVOZDYANA_H
@@ -195,6 +195,10 @@ uint32_t gvz_lay_in(uint8_t *header, size_t header_len, const uint8_t *frame, si
 
 /* Writes 204 ones instead of a header's frame, in place. Refuses as gvz_header_read does. */
 uint32_t gvz_take_out(uint8_t *header, size_t header_len);
+
+/* The CRC-32 of any bytes, as the header's is taken of bytes 4 to 183 (ITU-T H.222.0: polynomial 0x04C11DB7, register all ones at the start, nothing
+ * reflected or inverted). Bytes that end in their own CRC, highest byte first, have the CRC 0. Returns the CRC, and refuses nothing. */
+uint32_t gvz_crc32(const uint8_t *bytes, size_t bytes_len);
 
 #ifdef __cplusplus
 }

@@ -1,8 +1,8 @@
 // What C and Rust programs call; include/gvozdyana.h declares it all.
 //
-// Every exported function takes any numbers and any bytes of any length. It returns a status: the refusal's number in the low 8 bits, 0 where there is
-// none, and above them what else it tells. A buffer whose length is wrong is refusal 1, before anything else is looked at, and a refusal leaves every lent
-// buffer as it was. The definitions stand in the specs/ of the crates that are called.
+// Every exported function takes any numbers and any bytes of any length. All but gvz_crc32 return a status: the refusal's number in the low 8 bits, 0
+// where there is none, and above them what else they tell. A buffer whose length is wrong is refusal 1, before anything else is looked at, and a refusal
+// leaves every lent buffer as it was. The definitions stand in the specs/ of the crates that are called.
 ghost use mathlib.Core.Path.{_≡_};
 ghost use Rattle.flat_repair.specs.Repair.{repairStatus, repairWord};
 ghost use Rattle.flat_frame.specs.Frame.{frameReadStatus, frameReadRecord, frameWriteStatus, frameWriteBytes};
@@ -10,6 +10,8 @@ ghost use Rattle.flat_place.specs.Place.{reportStatus, reportPlace, deskStatus,
 ghost use Rattle.flat_receiver.specs.Receiver.{followStatus, captureSource, captureNumbers};
 ghost use Rattle.flat_header.specs.Header.{headerReadStatus, headerReadValues, headerWriteStatus, headerWriteBytes, layInStatus, takeOutStatus};
 ghost use Rattle.header.specs.Laying.{layInOf, takeOutOf};
+ghost use Rattle.bits.specs.Bits.{bits};
+ghost use Rattle.crc.specs.Crc.{crc32Of};
 
 // The repair asked for alone.
 #[no_mangle]
@@ -103,4 +105,12 @@ pub extern "C" fn gvz_take_out(header: &mut [u8]) -> u32
     ensures { λ _. ⌜ now (header .exit) ≡ takeOutOf (now (header .entry)) ⌝ }
 {
     flat_header::take_out(header)
+}
+
+// The CRC-32 of any bytes, as a header's is taken: nothing is refused, and the answer is the CRC itself.
+#[no_mangle]
+pub extern "C" fn gvz_crc32(bytes: &[u8]) -> u32
+    ensures { λ r. ⌜ r ≡ crc32Of (bits (now (bytes .entry))) ⌝ }
+{
+    crc::crc32(bytes)
 }

@@ -1,4 +1,4 @@
-//! The exported functions as the archive has them, over numbers and slices. Each answers a status: the refusal's number in the low 8 bits,
+//! The exported functions as the archive has them, over numbers and slices. Each but [`crc32`] answers a status: the refusal's number in the low 8 bits,
 //! 0 where nothing was refused, and above them what else it tells. A refusal leaves every buffer as it was, and a buffer of another
 //! length than the one named is refusal 1. The other modules say the same with types.
 
@@ -69,6 +69,7 @@ mod archive {
             frame_len: usize,
         ) -> u32;
         pub fn gvz_take_out(header: *mut u8, header_len: usize) -> u32;
+        pub fn gvz_crc32(bytes: *const u8, bytes_len: usize) -> u32;
     }
 }
 
@@ -186,4 +187,9 @@ pub fn lay_in(header: &mut [u8], frame: &[u8]) -> u32 {
 /// The number; `header` is changed in place.
 pub fn take_out(header: &mut [u8]) -> u32 {
     unsafe { archive::gvz_take_out(header.as_mut_ptr(), header.len()) }
+}
+
+/// The CRC-32 itself.
+pub fn crc32(bytes: &[u8]) -> u32 {
+    unsafe { archive::gvz_crc32(bytes.as_ptr(), bytes.len()) }
 }

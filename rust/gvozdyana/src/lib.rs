@@ -23,6 +23,7 @@
 //! ```
 pub mod calls;
 pub mod capture;
+mod crc;
 pub mod follower;
 pub mod frame;
 pub mod header;
@@ -30,6 +31,7 @@ pub mod place;
 mod refusal;
 mod repair;
 
+pub use crc::crc32;
 pub use refusal::Refusal;
 pub use repair::{repair, repair_into, Repaired};
 
