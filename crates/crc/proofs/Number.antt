@@ -6,10 +6,10 @@ use Prim.Native.Nat.{ℕ, _+_, _*_, _%_, _^_, _<_}
 use native.Mathlib.Nat.{lt-of-lt-of-le, mod-mod}
 use native.Mathlib.Omega.{arith}
 use lib.ListN.{length, length-append, length-replicate}
-use lib.Bits.{bitXor, xor-block, xor-mod}
+use lib.Bits.{bitXor, xor-comm, xor-block, xor-mod}
 use lib.Pow.{pow-mono}
 use Rattle.gf2.specs.Polynomial.{_⊕_, zeros, add}
-use Rattle.gf2.proofs.Sum.{length-add}
+use Rattle.gf2.proofs.Sum.{length-add, add-self}
 use Rattle.bits.specs.Bits.{digit, value, bitsOf}
 use Rattle.bits.proofs.Bits.{length-bitsOf, value-lt, value-inj, value-append, value-zeros, value-bitsOf, value-bitsOf-fit}
 
@@ -57,3 +57,10 @@ pub bitsOf-low : (k v : ℕ) → bitsOf k (v % 2 ^ k) ≡ bitsOf k v
 bitsOf-low k v =
     value-inj (bitsOf k (v % 2 ^ k)) (bitsOf k v) (length-bitsOf k (v % 2 ^ k) ∙ sym (length-bitsOf k v))
     (value-bitsOf k (v % 2 ^ k) ∙ mod-mod v (2 ^ k) ∙ sym (value-bitsOf k v))
+
+-- two bytes that are the same with y added are the same
+pub xor-same-byte : (a b y : ℕ) → a < 256 → b < 256 → bitXor a y ≡ bitXor b y → a ≡ b
+xor-same-byte a b y ha hb e =
+    let back : (x : ℕ) → bitsOf 8 x ≡ add (bitsOf 8 y) (bitsOf 8 (bitXor x y)) =
+    λ x. sym (ap (add (bitsOf 8 y)) (ap (bitsOf 8) (xor-comm x y) ∙ sym (add-bitsOf 8 y x)) ∙ add-self (bitsOf 8 y) (bitsOf 8 x)) in
+    sym (value-bitsOf-fit 8 a ha) ∙ ap value (back a ∙ ap (λ k. add (bitsOf 8 y) (bitsOf 8 k)) e ∙ sym (back b)) ∙ value-bitsOf-fit 8 b hb
