@@ -20,7 +20,7 @@ use Rattle.crc.proofs.Number.{value-add, add-bitsOf, bitsOf-low}
 -- ---- the check bits of a row of bytes
 
 -- the remainders of its bytes, summed from the last one
-abbrev pub sum : List Bool → List ℕ → ℕ
+abbrev sum : List Bool → List ℕ → ℕ
 sum g [] = 0
 sum g (b ∷ []) = remainderOf g 0 b
 sum g (b ∷ (c ∷ bs)) = bitXor (sum g (c ∷ bs)) (remainderOf g (suc (length bs)) b)
@@ -39,9 +39,18 @@ check-one : (g : List Bool) (b : ℕ) → value (checkBits g (bits (b ∷ []))) 
 unfolding bits remainderOf
 check-one g b = refl
 
-pub check-sum : (g : List Bool) (b : ℕ) (bs : List ℕ) → 0 < length g → value (checkBits g (bits (b ∷ bs))) ≡ sum g (b ∷ bs)
+check-sum : (g : List Bool) (b : ℕ) (bs : List ℕ) → 0 < length g → value (checkBits g (bits (b ∷ bs))) ≡ sum g (b ∷ bs)
 check-sum g b [] pos = check-one g b
 check-sum g b (c ∷ bs) pos = check-more g b (c ∷ bs) pos ∙ ap (λ r. bitXor r (remainderOf g (suc (length bs)) b)) (check-sum g c bs pos)
+
+-- the same of eight bytes, written out
+pub eight-sum : (g : List Bool) (b₀ b₁ b₂ b₃ b₄ b₅ b₆ b₇ : ℕ) {t₀ t₁ t₂ t₃ t₄ t₅ t₆ t₇ : ℕ} → 0 < length g
+    → t₀ ≡ remainderOf g 0 b₇ → t₁ ≡ remainderOf g 1 b₆ → t₂ ≡ remainderOf g 2 b₅ → t₃ ≡ remainderOf g 3 b₄
+    → t₄ ≡ remainderOf g 4 b₃ → t₅ ≡ remainderOf g 5 b₂ → t₆ ≡ remainderOf g 6 b₁ → t₇ ≡ remainderOf g 7 b₀
+    → bitXor (bitXor (bitXor (bitXor (bitXor (bitXor (bitXor t₀ t₁) t₂) t₃) t₄) t₅) t₆) t₇
+    ≡ value (checkBits g (bits (b₀ ∷ b₁ ∷ b₂ ∷ b₃ ∷ b₄ ∷ b₅ ∷ b₆ ∷ b₇ ∷ [])))
+eight-sum g b₀ b₁ b₂ b₃ b₄ b₅ b₆ b₇ pos e₀ e₁ e₂ e₃ e₄ e₅ e₆ e₇ =
+    rw (e₀, e₁, e₂, e₃, e₄, e₅, e₆, e₇) (sym (check-sum g b₀ (b₁ ∷ b₂ ∷ b₃ ∷ b₄ ∷ b₅ ∷ b₆ ∷ b₇ ∷ []) pos))
 
 -- ---- a register of four bytes, added to the first four of a row
 

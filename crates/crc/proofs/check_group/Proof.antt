@@ -1,10 +1,8 @@
 -- `crc::check_group` meets its contract: the sum of eight remainders. Assumes nothing.
-use mathlib.Core.Path.{sym}
-use mathlib.Core.List.{[], _∷_}
 use borrow.Author.Needs.{needs}
 use Rattle.crc.specs.Crc.{g32}
 use Rattle.crc.proofs.Crc.{some32}
-use Rattle.crc.proofs.Group.{check-sum}
+use Rattle.crc.proofs.Group.{eight-sum}
 use Rattle.crc.proofs.check_group.Statement.{statement}
 use Rattle.crc.proofs.check_group.Tie as tie
 
@@ -35,17 +33,15 @@ table7-requires c κs = search needs
 returns : tie.Need-returns
 returns c =
     let a = c .before .before .before .before .before .before .before .before .args in
-    let all = check-sum g32 (a .b0) (a .b1 ∷ a .b2 ∷ a .b3 ∷ a .b4 ∷ a .b5 ∷ a .b6 ∷ a .b7 ∷ []) some32 in
-    rw (
-      c .before .before .before .before .before .before .before .table0 .ensures,
-      c .before .before .before .before .before .before .table1 .ensures,
-      c .before .before .before .before .before .table2 .ensures,
-      c .before .before .before .before .table3 .ensures,
-      c .before .before .before .table4 .ensures,
-      c .before .before .table5 .ensures,
-      c .before .table6 .ensures,
-      c .table7 .ensures,
-    ) (sym all)
+    eight-sum g32 (a .b0) (a .b1) (a .b2) (a .b3) (a .b4) (a .b5) (a .b6) (a .b7) some32
+    (c .before .before .before .before .before .before .before .table0 .ensures)
+    (c .before .before .before .before .before .before .table1 .ensures)
+    (c .before .before .before .before .before .table2 .ensures)
+    (c .before .before .before .before .table3 .ensures)
+    (c .before .before .before .table4 .ensures)
+    (c .before .before .table5 .ensures)
+    (c .before .table6 .ensures)
+    (c .table7 .ensures)
 
 pub check-group-spec : {M : Type 1} → statement M
 check-group-spec = tie.close (tie.spec table0-requires table1-requires table2-requires table3-requires table4-requires table5-requires table6-requires table7-requires returns)
