@@ -5,6 +5,7 @@ pub mod EvenRows
 pub mod Distance
 pub mod Decoding
 pub mod Answers
+pub mod Majority
 pub mod BeyondEight
 pub mod Encoding
 pub mod Promises

@@ -9,7 +9,7 @@ use lib.ListN.{length, getD, set, take, drop, length-append, length-drop}
 use lib.Seq.{take-all, drop-at, length-take-le}
 use Rattle.gf2.specs.Polynomial.{_⊕_, add, scale, remainder}
 use Rattle.gf2.proofs.Sum.{xor-comm, length-add, add-zeros}
-use Rattle.dsc_codec.proofs.Steps.{ne-xor, next}
+use Rattle.dsc_bits.proofs.Steps.{ne-xor, next}
 
 -- ---- adding the first j coefficients of g, then the next
 

@@ -7,7 +7,8 @@ use native.Mathlib.Omega.{arith}
 use lib.ListN.{length}
 use Rattle.dsc.specs.Code.{isCodeWord}
 use Rattle.dsc.specs.CheckTable.{differences, coefficient, syndrome}
-use Rattle.dsc_codec.specs.Engine.{at, Coefficients, rowSum, RowSums, FirstRowsEven}
+use Rattle.dsc_bits.specs.Words.{at}
+use Rattle.dsc_codec.specs.Engine.{Coefficients, rowSum, RowSums, FirstRowsEven}
 use Rattle.dsc.proofs.Word.{word-tested, tested-word}
 use Rattle.dsc.proofs.CheckRows.{sum-map, sum-same, differences-below, word-even}
 use Rattle.dsc.proofs.EvenRows.{first-rows-word}

@@ -3,16 +3,11 @@
 -- Assumes nothing.
 use mathlib.Core.Path.{_≡_}
 use mathlib.Core.Bool.{Bool, true, false}
-use mathlib.Core.List.{List, [], _∷_, _++_}
+use mathlib.Core.List.{List}
 use Prim.Native.Nat.{ℕ, _<_}
-use lib.Dec.{leb}
-use lib.ListN.{length, getD}
-use Rattle.gf2.specs.Polynomial.{_⊕_, zeros}
-use Rattle.dsc.specs.CheckTable.{row, sumOver, coefficient, failures}
-
--- element i of a row of bits
-abbrev pub at : List Bool → ℕ → Bool
-at f i = getD f i false
+use lib.ListN.{length}
+use Rattle.dsc_bits.specs.Words.{at}
+use Rattle.dsc.specs.CheckTable.{row, sumOver, coefficient}
 
 -- the coefficients of w by place, with those that shortening fixes at 0
 pub record Coefficients (w c : List Bool) : Type 0 where
@@ -32,12 +27,3 @@ pub record RowSums (c f : List Bool) : Type 0 where
 pub record FirstRowsEven (c : List Bool) (r : Bool) : Type 0 where
   pub even : r ≡ true → (s : ℕ) → s < 82 → rowSum c s ≡ false
   pub odd : r ≡ false → (s : ℕ) × (s < 82) × (rowSum c s ≡ true)
-
--- the last bits w of r, each place flipped of whose 17 rows at least nine fail
-abbrev pub flipped : List Bool → List Bool → List Bool
-flipped r [] = []
-flipped r (b ∷ w) = (b ⊕ leb 9 (failures r (length w))) ∷ flipped r w
-
--- the 208 bits of a frame that holds the word w at B17 to B203 and 0 elsewhere
-abbrev pub padded : List Bool → List Bool
-padded w = zeros 17 ++ (w ++ zeros 4)

@@ -5,101 +5,7 @@ ghost use Prim.Native.Nat.{_+_, _<_, _≤_};
 ghost use lib.ListN.{length, take, drop};
 ghost use Rattle.gf2.specs.Polynomial.{zeros, add, remainder};
 ghost use Rattle.dsc.specs.Code.{generatorLow, parityOf};
-ghost use Rattle.dsc_codec.specs.Engine.{at};
-use crate::words;
-
-// The 82 coefficients of the generator below x^82, from x^81 down.
-const LOW: [bool; 82] = [
-    false,
-    false,
-    false,
-    false,
-    true,
-    true,
-    false,
-    false,
-    false,
-    false,
-    true,
-    false,
-    false,
-    false,
-    true,
-    true,
-    false,
-    false,
-    false,
-    false,
-    false,
-    false,
-    false,
-    false,
-    false,
-    true,
-    false,
-    false,
-    false,
-    true,
-    false,
-    false,
-    false,
-    true,
-    false,
-    false,
-    false,
-    false,
-    false,
-    false,
-    false,
-    true,
-    false,
-    false,
-    false,
-    true,
-    false,
-    true,
-    false,
-    false,
-    false,
-    false,
-    false,
-    false,
-    false,
-    false,
-    false,
-    true,
-    false,
-    true,
-    false,
-    false,
-    false,
-    true,
-    false,
-    false,
-    false,
-    false,
-    false,
-    false,
-    false,
-    true,
-    false,
-    false,
-    false,
-    false,
-    false,
-    true,
-    false,
-    false,
-    false,
-    true,
-];
-
-// Those coefficients, to be taken once for a division and lent on: each index into a constant would copy the whole of it.
-fn generator_low() -> [bool; 82]
-    ensures { λ r. ⌜ r ≡ generatorLow ⌝ }
-{
-    LOW
-}
+ghost use Rattle.dsc_bits.specs.Words.{at};
 
 // g, added at the front of v.
 fn add_front(g: &[bool], v: &mut [bool])
@@ -137,7 +43,7 @@ fn shifted(w: &[bool]) -> [bool; 187]
     requires { ⌜ length (now w) ≡ 187 ⌝ }
     ensures { λ r. ⌜ r ≡ take 105 (now (w .entry)) ++ zeros 82 ⌝ }
 {
-    let mut d = words::clear();
+    let mut d = dsc_bits::clear();
     for n in 0..187 {
         d[n] = shifted_bit(w, n);
     }
@@ -161,7 +67,7 @@ pub fn parity(w: &[bool]) -> [bool; 82]
     requires { ⌜ length (now w) ≡ 187 ⌝ }
     ensures { λ r. ⌜ r ≡ parityOf (take 105 (now (w .entry))) ⌝ }
 {
-    let g = generator_low();
+    let g = dsc_tables::generator::low();
     let mut d = shifted(w);
     divide(&g, &mut d);
     last(&d)

@@ -4,51 +4,28 @@ ghost use lib.ListN.{length};
 ghost use Rattle.dsc.specs.Encoding.{encodeOf};
 ghost use Rattle.dsc.specs.Repair.{refusedWith, repairedTo, answerTo, decode, repairOf, Repairs};
 use dsc::Answer;
-use dsc::Outcome;
 
-mod check_table;
 mod encoder;
 mod rows;
-mod words;
-
-fn refused(number: u8) -> Answer
-    ensures { λ a. ⌜ a ≡ refusedWith number ⌝ }
-{
-    Answer {
-        outcome: Outcome::Refused(number),
-        word: [0; 26],
-    }
-}
-
-fn repaired(word: &[bool], places: u8) -> Answer
-    requires { ⌜ length (now word) ≡ 187 ⌝ }
-    ensures { λ a. ⌜ a ≡ repairedTo (now (word .entry)) places ⌝ }
-{
-    let word = words::word_bytes(word);
-    Answer {
-        outcome: Outcome::Repaired(places),
-        word,
-    }
-}
 
 // The repair of 187 received bits.
 fn repair_word(received: &[bool]) -> Answer
     requires { ⌜ length (now received) ≡ 187 ⌝ }
     ensures { λ a. ⌜ a ≡ answerTo (now (received .entry)) (decode (now (received .entry))) ⌝ }
 {
-    let t = check_table::table();
+    let t = dsc_tables::check_rows::table();
     if rows::is_code_word(&t, received) {
-        return repaired(received, 0);
+        return dsc_bits::repaired(received, 0);
     }
     let w = rows::majority(&t, received);
     if !rows::is_code_word(&t, &w) {
-        return refused(4);
+        return dsc_bits::refused(4);
     }
-    let places = words::distance(received, &w);
+    let places = dsc_bits::distance(received, &w);
     if 8 < places {
-        return refused(4);
+        return dsc_bits::refused(4);
     }
-    repaired(&w, places)
+    dsc_bits::repaired(&w, places)
 }
 
 // The repair asked for alone: of any bytes, it looks only at B17 to B203, and refuses 1, then 4.
@@ -56,9 +33,9 @@ pub fn repair(frame: &[u8]) -> Answer
     ensures { λ a. ⌜ Repairs (now (frame .entry)) a × (a ≡ repairOf (now (frame .entry))) ⌝ }
 {
     if frame.len() != 26 {
-        return refused(1);
+        return dsc_bits::refused(1);
     }
-    let received = words::received(frame);
+    let received = dsc_bits::received(frame);
     repair_word(&received)
 }
 
@@ -69,10 +46,10 @@ pub fn encode(frame: &mut [u8])
     if frame.len() != 26 {
         return;
     }
-    let word = words::received(frame);
+    let word = dsc_bits::received(frame);
     let parity = encoder::parity(&word);
-    let high = words::number(&parity, 0, 41);
-    let low = words::number(&parity, 41, 41);
+    let high = dsc_bits::number(&parity, 0, 41);
+    let low = dsc_bits::number(&parity, 41, 41);
     bits::put(frame, 122, 41, high);
     bits::put(frame, 163, 41, low);
 }

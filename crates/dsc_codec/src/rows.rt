@@ -5,8 +5,9 @@ ghost use Prim.Native.Nat.{ℕ, _+_, _-_, _%_, _<_};
 ghost use lib.ListN.{length, getD};
 ghost use Rattle.dsc.specs.Code.{count, isCodeWord};
 ghost use Rattle.dsc.specs.CheckTable.{CheckTable, differences, coefficient, rowsOf, syndrome};
-ghost use Rattle.dsc_codec.specs.Engine.{at, Coefficients, rowSum, RowSums, FirstRowsEven, flipped};
-use crate::words;
+ghost use Rattle.dsc_codec.specs.Engine.{Coefficients, rowSum, RowSums, FirstRowsEven};
+ghost use Rattle.dsc.specs.Majority.{flipped};
+ghost use Rattle.dsc_bits.specs.Words.{at};
 
 // Entry i of row s.
 fn place(t: &[u16], s: usize, i: usize) -> usize
@@ -105,7 +106,7 @@ fn failure_count(t: &[u16], f: &[bool], p: usize) -> u8
 {
     let mut n = 0;
     for i in 0..17 {
-        n += words::one(f[row_through(t, p, i)]);
+        n += dsc_bits::one(f[row_through(t, p, i)]);
     }
     n
 }
@@ -115,7 +116,7 @@ fn flip_majority(t: &[u16], r: &[bool], f: &[bool]) -> [bool; 187]
     requires { ⌜ CheckTable (now t) × (length (now r) ≡ 187) × (length (now f) ≡ 273) × ((s : ℕ) → s < 273 → at (now f) s ≡ syndrome (now r) s) ⌝ }
     ensures { λ w. ⌜ w ≡ flipped (now (r .entry)) (now (r .entry)) ⌝ }
 {
-    let mut w = words::clear();
+    let mut w = dsc_bits::clear();
     for n in 0..187 {
         w[n] = r[n] != (9 <= failure_count(t, f, 186 - n));
     }

@@ -5,8 +5,8 @@ use native.Mathlib.Omega.{arith}
 use borrow.Author.Tests.{not-true, not-false}
 use lib.ListN.{length}
 use Rattle.dsc.proofs.Distance.{dist-same}
-use Rattle.dsc_codec.proofs.Majority.{length-flipped}
-use Rattle.dsc_codec.proofs.Answers.{answer-found, answer-none}
+use Rattle.dsc.proofs.Majority.{length-flipped}
+use Rattle.dsc.proofs.Majority.{answer-found, answer-none}
 use borrow.Author.Needs.{needs}
 use Rattle.dsc_codec.proofs.repair_word.Statement.{statement}
 use Rattle.dsc_codec.proofs.repair_word.Tie as tie

@@ -6,8 +6,8 @@ use Prim.Native.Nat.{_-_}
 use native.Mathlib.Omega.{arith}
 use lib.ListN.{drop, length-drop}
 use lib.Seq.{getD-drop}
-use Rattle.dsc_codec.specs.Engine.{at}
-use Rattle.dsc_codec.proofs.Steps.{Filled, filled-none, filled-next, filled-list}
+use Rattle.dsc_bits.specs.Words.{at}
+use Rattle.dsc_bits.proofs.Steps.{Filled, filled-none, filled-next, filled-list}
 use Rattle.dsc_codec.proofs.encoder.last.Statement.{statement}
 use Rattle.dsc_codec.proofs.encoder.last.Tie as tie
 

@@ -9,8 +9,8 @@ use borrow.Author.Needs.{needs}
 use Rattle.dsc_codec.proofs.encoder.parity.Statement.{statement}
 use Rattle.dsc_codec.proofs.encoder.parity.Tie as tie
 
-generator-low-requires : tie.Need-generator-low-requires
-generator-low-requires c κs = search needs
+low-requires : tie.Need-low-requires
+low-requires c κs = search needs
 
 shifted-requires : tie.Need-shifted-requires
 shifted-requires c κs = search needs
@@ -35,14 +35,14 @@ returns c =
     let w = c .before .before .before .before .before .before .before .before .before .args .w .now in
     c .last .ensures
     ∙ c .before .before .before .divide .ensures
-    ∙ ap₂ (λ g w. remainder g 105 w) (c .before .before .before .before .before .before .before .generator-low .ensures) (c .before .before .before .before .before .before .shifted .ensures)
+    ∙ ap₂ (λ g w. remainder g 105 w) (c .before .before .before .before .before .before .before .low .ensures) (c .before .before .before .before .before .before .shifted .ensures)
     ∙ parity-remainder (take 105 w) (length-take-le 105 w (omega arith))
 
 pub parity-spec : {M : Type 1} → statement M
 parity-spec =
     tie.close
     (tie.spec
-    generator-low-requires
+    low-requires
     shifted-requires
     slice-aggregate-divide
     slice-aggregate-divide-2

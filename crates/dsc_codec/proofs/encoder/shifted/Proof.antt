@@ -7,8 +7,8 @@ use native.Mathlib.Omega.{arith}
 use lib.ListN.{take, length-append}
 use lib.Seq.{length-take-le}
 use Rattle.gf2.specs.Polynomial.{zeros}
-use Rattle.dsc_codec.specs.Engine.{at}
-use Rattle.dsc_codec.proofs.Steps.{Filled, filled-none, filled-next, filled-list}
+use Rattle.dsc_bits.specs.Words.{at}
+use Rattle.dsc_bits.proofs.Steps.{Filled, filled-none, filled-next, filled-list}
 use Rattle.dsc_codec.proofs.encoder.shifted.Statement.{statement}
 use Rattle.dsc_codec.proofs.encoder.shifted.Tie as tie
 

@@ -7,8 +7,8 @@ use native.Mathlib.Omega.{arith}
 use lib.ListN.{length, take, List·getD-append}
 use lib.Seq.{getD-append-add, getD-take, length-take-le}
 use Rattle.gf2.specs.Polynomial.{zeros}
-use Rattle.dsc_codec.specs.Engine.{at}
-use Rattle.dsc_codec.proofs.Octets.{zeros-at}
+use Rattle.dsc_bits.specs.Words.{at}
+use Rattle.dsc_bits.proofs.Octets.{zeros-at}
 use borrow.Author.Needs.{needs}
 use Rattle.dsc_codec.proofs.encoder.shifted_bit.Statement.{statement}
 use Rattle.dsc_codec.proofs.encoder.shifted_bit.Tie as tie

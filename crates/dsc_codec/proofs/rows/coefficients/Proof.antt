@@ -4,7 +4,7 @@ use mathlib.Core.Bool.{false}
 use Prim.Native.Nat.{_-_}
 use native.Mathlib.Omega.{arith}
 use Rattle.dsc.specs.CheckTable.{coefficient}
-use Rattle.dsc_codec.proofs.Steps.{Filled, filled-none, filled-next, filled-all}
+use Rattle.dsc_bits.proofs.Steps.{Filled, filled-none, filled-next, filled-all}
 use Rattle.dsc_codec.proofs.rows.coefficients.Statement.{statement}
 use Rattle.dsc_codec.proofs.rows.coefficients.Tie as tie
 

@@ -6,8 +6,8 @@ use native.Mathlib.Omega.{arith}
 use lib.ListN.{drop}
 use Rattle.dsc.specs.Code.{count, bit}
 use Rattle.dsc.specs.CheckTable.{rowsOf}
-use Rattle.dsc_codec.specs.Engine.{at}
-use Rattle.dsc_codec.proofs.Steps.{count-next, count-done, length-rows, rows-at}
+use Rattle.dsc_bits.specs.Words.{at}
+use Rattle.dsc_bits.proofs.Steps.{count-next, count-done, length-rows, rows-at}
 use Rattle.dsc_codec.proofs.rows.failure_count.Statement.{statement}
 use Rattle.dsc_codec.proofs.rows.failure_count.Tie as tie
 

@@ -7,10 +7,11 @@ use native.Mathlib.Omega.{arith}
 use lib.Dec.{leb}
 use Rattle.gf2.specs.Polynomial.{_⊕_}
 use Rattle.dsc.specs.CheckTable.{syndrome}
-use Rattle.dsc_codec.specs.Engine.{at, flipped}
+use Rattle.dsc_bits.specs.Words.{at}
+use Rattle.dsc.specs.Majority.{flipped}
 use Rattle.dsc.proofs.CheckRows.{rows-same}
-use Rattle.dsc_codec.proofs.Majority.{length-flipped}
-use Rattle.dsc_codec.proofs.Steps.{Filled, filled-none, filled-next, filled-list, ne-xor, flipped-at}
+use Rattle.dsc.proofs.Majority.{length-flipped}
+use Rattle.dsc_bits.proofs.Steps.{Filled, filled-none, filled-next, filled-list, ne-xor, flipped-at}
 use Rattle.dsc_codec.proofs.rows.flip_majority.Statement.{statement}
 use Rattle.dsc_codec.proofs.rows.flip_majority.Tie as tie
 

@@ -6,8 +6,9 @@ use native.Mathlib.Omega.{arith}
 use lib.ListN.{drop}
 use Rattle.gf2.specs.Polynomial.{_⊕_}
 use Rattle.dsc.specs.CheckTable.{sumOver, row}
-use Rattle.dsc_codec.specs.Engine.{at, rowSum}
-use Rattle.dsc_codec.proofs.Steps.{sum-next, sum-done, length-row, row-at}
+use Rattle.dsc_bits.specs.Words.{at}
+use Rattle.dsc_codec.specs.Engine.{rowSum}
+use Rattle.dsc_bits.proofs.Steps.{sum-next, sum-done, length-row, row-at}
 use Rattle.dsc_codec.proofs.rows.row_sum.Statement.{statement}
 use Rattle.dsc_codec.proofs.rows.row_sum.Tie as tie
 

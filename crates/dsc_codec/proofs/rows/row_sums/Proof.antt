@@ -4,7 +4,7 @@ use mathlib.Core.Bool.{false}
 use Prim.Native.Nat.{_-_}
 use native.Mathlib.Omega.{arith}
 use Rattle.dsc_codec.specs.Engine.{rowSum}
-use Rattle.dsc_codec.proofs.Steps.{Filled, filled-none, filled-next, filled-all}
+use Rattle.dsc_bits.proofs.Steps.{Filled, filled-none, filled-next, filled-all}
 use Rattle.dsc_codec.proofs.rows.row_sums.Statement.{statement}
 use Rattle.dsc_codec.proofs.rows.row_sums.Tie as tie
 
