@@ -130,6 +130,16 @@ pub onRow-shift : (s n k : ℕ) → s < 273 → n + k < 273 → onRow s (n + k) 
 onRow-shift s n k hs hn =
     onRow-difference s (n + k) hs hn ∙ ap isDifference (omega arith) ∙ sym (onRow-difference ((s + 273 - k) % 273) n (omega arith) (omega arith))
 
+-- a word times x^k has on row s the sum of the word on row s - k
+pub syndrome-shift : (k : ℕ) (u : List Bool) (s : ℕ) → s < 273 → length u + k ≤ 273 → syndrome (u ++ zeros k) s ≡ syndrome u ((s + 273 - k) % 273)
+syndrome-shift k [] s hs h = syndrome-zeros k s ∙ sym (syndrome-nil ((s + 273 - k) % 273))
+syndrome-shift k (b ∷ u) s hs h =
+    syndrome-cons b (u ++ zeros k) s
+    ∙ ap₂ (λ t r. (b && t) ⊕ r)
+    (ap (onRow s) (length-append u (zeros k) ∙ ap (length u +_) (length-replicate k false)) ∙ onRow-shift s (length u) k hs (omega arith))
+    (syndrome-shift k u s hs (omega arith))
+    ∙ sym (syndrome-cons b u ((s + 273 - k) % 273))
+
 -- row s - a holds place n exactly if row s - n holds place a
 pub onRow-turn : (s a n : ℕ) → s < 273 → n + a < 273 → onRow ((s + 273 - a) % 273) n ≡ onRow ((s + 273 - n) % 273) a
 onRow-turn s a n hs h =
@@ -150,20 +160,16 @@ generator-test : T (below 273 (λ s. not (rowSum 83 generator s)))
 unfolding below rowSum isDifference differences generatorLow powers poly member
 generator-test = tt
 
-syndrome-shifted : (k : ℕ) (u : List Bool) (s : ℕ) → s < 273 → length u + k ≤ 273 → syndrome (u ++ zeros k) s ≡ rowSum (length u) u ((s + 273 - k) % 273)
+syndrome-rowSum : (u : List Bool) (s : ℕ) → s < 273 → length u ≤ 273 → syndrome u s ≡ rowSum (length u) u s
 unfolding rowSum
-syndrome-shifted k [] s hs h = syndrome-zeros k s
-syndrome-shifted k (b ∷ u) s hs h =
-    syndrome-cons b (u ++ zeros k) s
-    ∙ ap₂ (λ t r. (b && t) ⊕ r)
-    (ap (onRow s) (length-append u (zeros k) ∙ ap (length u +_) (length-replicate k false))
-    ∙ onRow-shift s (length u) k hs (omega arith)
-    ∙ onRow-difference ((s + 273 - k) % 273) (length u) (omega arith) (omega arith))
-    (syndrome-shifted k u s hs (omega arith))
+syndrome-rowSum [] s hs h = syndrome-nil s
+syndrome-rowSum (b ∷ u) s hs h =
+    syndrome-cons b u s ∙ ap₂ (λ t r. (b && t) ⊕ r) (onRow-difference s (length u) hs (omega arith)) (syndrome-rowSum u s hs (omega arith))
 
 pub generator-even : (k s : ℕ) → s < 273 → k ≤ 190 → syndrome (generator ++ zeros k) s ≡ false
 generator-even k s hs hk =
-    syndrome-shifted k generator s hs (omega (arith, length-low))
+    syndrome-shift k generator s hs (omega (arith, length-low))
+    ∙ syndrome-rowSum generator ((s + 273 - k) % 273) (omega arith) (omega (arith, length-low))
     ∙ ap (λ n. rowSum n generator ((s + 273 - k) % 273)) (ap suc length-low)
     ∙ T-not (rowSum 83 generator ((s + 273 - k) % 273)) (below-at 273 (λ s. not (rowSum 83 generator s)) generator-test ((s + 273 - k) % 273) (omega arith))
 

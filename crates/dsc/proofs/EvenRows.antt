@@ -74,7 +74,7 @@ first-false true e = e
 first-false false e = refl
 
 -- so at most 82 bits with even sums are zeros
-even-zeros : (r : List Bool) → length r ≤ 82 → ((s : ℕ) → s < 273 → syndrome r s ≡ false) → r ≡ zeros (length r)
+pub even-zeros : (r : List Bool) → length r ≤ 82 → ((s : ℕ) → s < 273 → syndrome r s ≡ false) → r ≡ zeros (length r)
 unfolding held
 even-zeros [] h e = refl
 even-zeros (b ∷ r) h e = ap₂ _∷_ none (even-zeros r (omega arith) (λ s hs. sym (syndrome-false r s) ∙ ap (λ c. syndrome (c ∷ r) s) (sym none) ∙ e s hs))
@@ -92,7 +92,7 @@ even-zeros (b ∷ r) h e = ap₂ _∷_ none (even-zeros r (omega arith) (λ s hs
 
 -- ---- division leaves the sums as they are
 
-remainder-syndrome : (k : ℕ) (w : List Bool) (s : ℕ) → s < 273 → k ≤ 190 → length w ≡ k + 82 → syndrome (remainder generatorLow k w) s ≡ syndrome w s
+pub remainder-syndrome : (k : ℕ) (w : List Bool) (s : ℕ) → s < 273 → k ≤ 190 → length w ≡ k + 82 → syndrome (remainder generatorLow k w) s ≡ syndrome w s
 unfolding remainder scale add
 remainder-syndrome zero w s hs hk h = refl
 remainder-syndrome (suc k) [] s hs hk h = absurd (omega arith)

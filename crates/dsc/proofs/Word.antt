@@ -17,7 +17,7 @@ unfolding allZero
 all-zeros zero = refl
 all-zeros (suc n) = all-zeros n
 
-zeros-all : (w : List Bool) → allZero w ≡ true → w ≡ zeros (length w)
+pub zeros-all : (w : List Bool) → allZero w ≡ true → w ≡ zeros (length w)
 unfolding allZero
 zeros-all [] e = refl
 zeros-all (true ∷ w) e = absurd (false≢true e)

@@ -48,6 +48,12 @@ feed-remainder g (x ∷ t) (b ∷ m) e h =
     ∙ ap (remainder g (length m))
     (add-assoc f s z (omega (arith, length-scale (x ⊕ b) g, length-append t (false ∷ []))) ∙ ap (add f) (add-shifted t 1 z))
 
+-- a turn, with no bit going in, is one step of long division of the register's polynomial times x
+pub turn-remainder : (g r : List Bool) → step g r false ≡ remainder g 1 (r ++ zeros 1)
+unfolding step remainder scale
+turn-remainder g [] = sym (add-zeros (length g) [])
+turn-remainder g (h ∷ t) = ap (λ b. add (scale b g) (t ++ (false ∷ []))) (xor-false h)
+
 -- from a register of zeros: the check bits
 pub feed-check : (g m : List Bool) → 0 < length g → feed g (zeros (length g)) m ≡ checkBits g m
 unfolding checkBits
