@@ -1,2 +1,4 @@
+pub mod Turns
 pub mod State
 pub mod Promises
+pub mod Cases
