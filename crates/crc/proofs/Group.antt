@@ -15,7 +15,7 @@ use Rattle.gf2.proofs.Register.{feed-long, check-append}
 use Rattle.bits.specs.Bits.{value, bitsOf, bits}
 use Rattle.bits.proofs.Bits.{length-bitsOf, length-bits, bitsOf-add}
 use Rattle.crc.specs.Remainders.{remainderOf}
-use Rattle.crc.proofs.Number.{value-add, add-bitsOf, bitsOf-low}
+use Rattle.lanes.proofs.Number.{value-add, add-bitsOf, bitsOf-low}
 
 -- ---- the check bits of a row of bytes
 

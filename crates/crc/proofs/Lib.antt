@@ -1,4 +1,3 @@
-pub mod Number
 pub mod Lookup
 pub mod Table
 pub mod Turn

@@ -28,7 +28,7 @@ use borrow.Fn.Frame.{EnvOf}
 use borrow.Fn.Function.{fnOf, plainOf, init}
 use borrow.Fn.Any.{wantQ}
 use borrow.Fn.Plain.{t-fn-plain}
-use Rattle.crc.proofs.Number.{xor-same-byte}
+use Rattle.lanes.proofs.Number.{xor-same-byte}
 
 -- ---- the code: local 0 is the answer, 1 the byte, 2 the key, 3 what the match gives
 

@@ -18,7 +18,7 @@ use Rattle.bits.proofs.Bits.{length-bitsOf, value-lt}
 use Rattle.bits.proofs.Computed.{obeys, at-each}
 use Rattle.crc.specs.Crc.{g32}
 use Rattle.crc.specs.Remainders.{remainderOf, Remainders}
-use Rattle.crc.proofs.Number.{value-add, add-bitsOf}
+use Rattle.lanes.proofs.Number.{value-add, add-bitsOf}
 
 -- ---- an array of remainders, from one test of the whole of it
 

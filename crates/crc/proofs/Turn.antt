@@ -15,7 +15,7 @@ use Rattle.gf2.proofs.Register.{length-feed, feed-append, feed-high, feed-check
 use Rattle.bits.specs.Bits.{value, bitsOf}
 use Rattle.bits.proofs.Bits.{length-bitsOf, value-lt, value-append, value-zeros, bitsOf-value, value-bitsOf-fit}
 use Rattle.crc.specs.Remainders.{remainderOf}
-use Rattle.crc.proofs.Number.{value-add, bitsOf-wider}
+use Rattle.lanes.proofs.Number.{value-add, bitsOf-wider}
 
 -- a register of j + k bits: its k high bits, and the j that stay when k come in
 module _ (r : List Bool) (j k : ℕ) (lr : length r ≡ j + k) where

@@ -8,7 +8,7 @@ use Rattle.gf2.specs.Register.{feed}
 use Rattle.bits.specs.Bits.{value, bitsOf}
 use Rattle.bits.proofs.Bits.{bitsOf-add}
 use Rattle.crc.specs.Crc.{g32}
-use Rattle.crc.proofs.Number.{bitsOf-low}
+use Rattle.lanes.proofs.Number.{bitsOf-low}
 use Rattle.crc.proofs.Turn.{feed-nothing, feed-more}
 use Rattle.crc.proofs.feed_byte.Statement.{statement}
 use Rattle.crc.proofs.feed_byte.Tie as tie

@@ -1,0 +1,4 @@
+pub mod Number
+pub mod Lanes
+pub mod Windows
+pub mod Adders
