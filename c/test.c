@@ -61,16 +61,20 @@ static void set_places(uint8_t *frame, unsigned n)
     }
 }
 
-/* Of 40 bytes that hold 0xA5 the first 26 are left as `word`, if it is not NULL, and the rest as they were. */
+/* Of 40 bytes that hold 0xA5 the first 26 are left by either engine as `word`, if it is not NULL, and the rest as they were. */
 static void expect_repair(const char *what, const uint8_t *frame, size_t frame_len, size_t word_len, uint32_t status, const uint8_t *word)
 {
     uint8_t left[40], expected[40];
-    memset(left, 0xA5, sizeof left);
+    char by_register[100];
+    snprintf(by_register, sizeof by_register, "%s, by the register", what);
     memset(expected, 0xA5, sizeof expected);
     if (word != NULL) {
         memcpy(expected, word, GVZ_FRAME_BYTES);
     }
+    memset(left, 0xA5, sizeof left);
     expect_left(what, gvz_repair(frame, frame_len, left, word_len), status, left, expected, sizeof left);
+    memset(left, 0xA5, sizeof left);
+    expect_left(by_register, gvz_repair_register(frame, frame_len, left, word_len), status, left, expected, sizeof left);
 }
 
 static void test_repair(void)

@@ -60,7 +60,7 @@ enum gvz_refusal {
 #define GVZ_FRAME_BYTES 26
 #define GVZ_RECORD_VALUES 18
 
-/* The repaired places of a status of gvz_repair and gvz_frame_read. */
+/* The repaired places of a status of gvz_repair, gvz_repair_register and gvz_frame_read. */
 #define GVZ_PLACES(status) ((status) >> 8)
 
 /* Where the fields stand in a record of GVZ_RECORD_VALUES. A field that identification, page and kind do not leave free is 0. */
@@ -90,6 +90,9 @@ enum gvz_record_index {
  * back as it was sent; hit in nine it is refused 4; from ten hits on it is refused 4, or the word is another one, and hits and repaired places
  * make at least 18 together. */
 uint32_t gvz_repair(const uint8_t *frame, size_t frame_len, uint8_t *word, size_t word_len);
+
+/* The same answers by a second engine, which divides by a shift register bit by bit: slow, for comparison. */
+uint32_t gvz_repair_register(const uint8_t *frame, size_t frame_len, uint8_t *word, size_t word_len);
 
 /* Reads a frame into a record of GVZ_RECORD_VALUES. Refuses 1 to 9. Tells the repaired places. */
 uint32_t gvz_frame_read(const uint8_t *frame, size_t frame_len, uint64_t *record, size_t record_len);

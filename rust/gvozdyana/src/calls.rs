@@ -10,6 +10,12 @@ mod archive {
             word: *mut u8,
             word_len: usize,
         ) -> u32;
+        pub fn gvz_repair_register(
+            frame: *const u8,
+            frame_len: usize,
+            word: *mut u8,
+            word_len: usize,
+        ) -> u32;
         pub fn gvz_frame_read(
             frame: *const u8,
             frame_len: usize,
@@ -78,6 +84,13 @@ mod archive {
 /// The number and 256 times the repaired places; `word` has 26 bytes.
 pub fn repair(frame: &[u8], word: &mut [u8]) -> u32 {
     unsafe { archive::gvz_repair(frame.as_ptr(), frame.len(), word.as_mut_ptr(), word.len()) }
+}
+
+/// The same as [`repair`], by the second engine.
+pub fn repair_register(frame: &[u8], word: &mut [u8]) -> u32 {
+    unsafe {
+        archive::gvz_repair_register(frame.as_ptr(), frame.len(), word.as_mut_ptr(), word.len())
+    }
 }
 
 /// The number and 256 times the repaired places; `record` has 18 values.

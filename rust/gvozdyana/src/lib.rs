@@ -33,7 +33,7 @@ mod repair;
 
 pub use crc::crc32;
 pub use refusal::Refusal;
-pub use repair::{repair, repair_into, Repaired};
+pub use repair::{repair, repair_by_register, repair_into, Repaired};
 
 /// The bytes of a frame.
 pub const FRAME_BYTES: usize = 26;

@@ -33,3 +33,21 @@ pub fn repair(frame: &[u8]) -> Result<Repaired, Refusal> {
 pub fn repair_into(frame: &[u8], word: &mut [u8]) -> Result<u8, Refusal> {
     told(calls::repair(frame, word)).map(|places| places as u8)
 }
+
+/// The same answers as [`repair`] by a second engine, which divides by a shift register bit by bit: slow, for comparison.
+///
+/// ```
+/// use gvozdyana::{repair, repair_by_register, Refusal};
+///
+/// let mut frame = [0; 26];
+/// frame[25] = 0x10;
+/// assert_eq!(repair_by_register(&frame)?.places, 1);
+/// assert_eq!(repair_by_register(&frame), repair(&frame));
+/// assert_eq!(repair_by_register(&frame[..25]), Err(Refusal::WrongLength));
+/// # Ok::<(), Refusal>(())
+/// ```
+pub fn repair_by_register(frame: &[u8]) -> Result<Repaired, Refusal> {
+    let mut word = [0; FRAME_BYTES];
+    let places = told(calls::repair_register(frame, &mut word))? as u8;
+    Ok(Repaired { word, places })
+}

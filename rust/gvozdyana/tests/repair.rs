@@ -1,9 +1,9 @@
-//! The proved repair beside the plain one, on frames of all sorts.
+//! The proved repair beside the plain one and beside the second engine, on frames of all sorts.
 mod common;
-use common::{for_each_seed, frames, hex, Case};
-use gvozdyana::{repair, repair_into, Refusal, Repaired, FRAME_BYTES};
-use reference::code::{distance, frame_of, is_code_word, protected, GENERATOR, LENGTH};
-use samples::{code_word, hit, sent_and_hit, shifted_generator};
+use common::{for_each_seed, frames, hex, length, Case};
+use gvozdyana::{calls, repair, repair_by_register, repair_into, Refusal, Repaired, FRAME_BYTES};
+use reference::code::{distance, frame_of, is_code_word, protected, Word, GENERATOR, LENGTH};
+use samples::{code_word, hit, sent_and_hit, shifted_generator, Random};
 
 /// The proved answer, once it is the plain version's.
 fn compared(frame: &[u8], case: Case) -> Result<Repaired, Refusal> {
@@ -165,21 +165,27 @@ fn nine_to_17_hits_anywhere() {
     });
 }
 
+/// A frame in which a code word's hits lead towards another, 18 places apart; and the other.
+fn hit_towards_another(hits: usize, random: &mut Random) -> ([u8; FRAME_BYTES], Word) {
+    let sent = code_word(random);
+    let apart = shifted_generator(random.below(105));
+    let places: Vec<usize> = (0..LENGTH).filter(|&place| apart[place] == 1).collect();
+    let chosen = random.choose(hits, &places);
+    let other = std::array::from_fn(|place| sent[place] ^ apart[place]);
+    (hit(&sent, &chosen, random), other)
+}
+
 /// Hits that lead towards another code word, which random ones hardly ever do: the least count that is allowed.
 #[test]
 fn nine_to_17_hits_towards_another_word() {
     for_each_seed(7, frames() * 10 / 100, |random, case| {
-        let sent = code_word(random);
-        let apart = shifted_generator(random.below(105));
-        let places: Vec<usize> = (0..LENGTH).filter(|&place| apart[place] == 1).collect();
         let hits = 9 + random.below(9);
-        let chosen = random.choose(hits, &places);
-        let frame = hit(&sent, &chosen, random);
+        let (frame, other) = hit_towards_another(hits, random);
         let expected = if hits == 9 {
             Err(Refusal::BeyondRepair)
         } else {
             Ok(Repaired {
-                word: frame_of(&std::array::from_fn(|place| sent[place] ^ apart[place])),
+                word: frame_of(&other),
                 places: 18 - hits as u8,
             })
         };
@@ -212,4 +218,68 @@ fn ten_hits_on_the_zero_word() {
         places: 8,
     };
     assert_eq!(repair(&frame), Ok(told));
+}
+
+/// Clean, hit in 1 to 17 places anywhere or towards another code word, noise, and noise of 0 to 60 bytes.
+fn frame_of_any_sort(random: &mut Random) -> Vec<u8> {
+    let hits = 1 + random.below(17);
+    match random.below(10) {
+        0 => sent_and_hit(0, random).1.to_vec(),
+        1..=5 => sent_and_hit(hits, random).1.to_vec(),
+        6 | 7 => hit_towards_another(hits, random).0.to_vec(),
+        8 => random.bytes(FRAME_BYTES),
+        _ => {
+            let n = random.below(61);
+            random.bytes(n)
+        }
+    }
+}
+
+/// The second engine takes long, so that its frames are fewer.
+#[test]
+fn the_second_engine() {
+    for_each_seed(8, frames() * 3 / 100, |random, case| {
+        let frame = frame_of_any_sort(random);
+        assert_eq!(
+            repair_by_register(&frame),
+            compared(&frame, case),
+            "frame {} of {case}",
+            hex(&frame)
+        );
+    });
+}
+
+#[test]
+fn every_length_and_the_second_engine() {
+    for_each_seed(9, 20, |random, case| {
+        for n in (0..=60).filter(|&n| n != FRAME_BYTES) {
+            let frame = random.bytes(n);
+            let told = repair_by_register(&frame);
+            assert_eq!(told, Err(Refusal::WrongLength), "{n} bytes of {case}");
+            assert_eq!(told, compared(&frame, case), "{n} bytes of {case}");
+        }
+    });
+}
+
+/// What the two engines answer and leave in a buffer, which is most often of 26 bytes.
+#[test]
+fn buffers_of_the_second_engine() {
+    for_each_seed(10, frames() / 100, |random, case| {
+        let frame = frame_of_any_sort(random);
+        let n = length(FRAME_BYTES, random);
+        let before = random.bytes(n);
+        let (mut left, mut left_by_register) = (before.clone(), before.clone());
+        let status = calls::repair(&frame, &mut left);
+        let what = || format!("frame {} of {case}, {n} bytes", hex(&frame));
+        assert_eq!(
+            calls::repair_register(&frame, &mut left_by_register),
+            status,
+            "{}",
+            what()
+        );
+        assert_eq!(left_by_register, left, "{}", what());
+        if status & 255 != 0 {
+            assert_eq!(left_by_register, before, "{}", what());
+        }
+    });
 }
