@@ -6,6 +6,7 @@ use std::hint::black_box;
 use std::time::Instant;
 
 type Header = [u8; 188];
+type Crc = fn(&[u8]) -> u32;
 
 const ROUNDS: usize = 3;
 
@@ -60,14 +61,14 @@ fn by_eight_tables(register: u32, bytes: &[u8]) -> u32 {
 
 const START: u32 = 0xFFFF_FFFF;
 
-const VERSIONS: [(&str, fn(&[u8]) -> u32); 3] = [
+const VERSIONS: [(&str, Crc); 3] = [
     ("table of 256 entries, Rust", |bytes| by_table(START, bytes)),
     ("eight tables, Rust", |bytes| by_eight_tables(START, bytes)),
     ("proved", gvozdyana::crc32),
 ];
 
 /// The headers whose CRC comes out zero, and nanoseconds for each header.
-fn check(headers: &[Header], crc: fn(&[u8]) -> u32) -> (usize, f64) {
+fn check(headers: &[Header], crc: Crc) -> (usize, f64) {
     let start = Instant::now();
     let accepted = headers
         .iter()
