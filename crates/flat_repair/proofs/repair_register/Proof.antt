@@ -1,0 +1,39 @@
+-- `flat_repair::repair_register` meets its contract, by the register. Assumes nothing.
+use mathlib.Core.Path.{_∙_}
+use borrow.Author.Needs.{needs}
+use Rattle.flat_repair.proofs.RepairCases.{word-length, wrong-buffer, told}
+use Rattle.flat_repair.proofs.repair_register.Statement.{statement}
+use Rattle.flat_repair.proofs.repair_register.Tie as tie
+
+status-requires : tie.Need-status-requires
+status-requires c κs = search needs
+
+returns : tie.Need-returns
+returns c =
+    let s = c .before .before .before .before .args in
+    let r = wrong-buffer (s .frame .now) (s .word .now) (c .before .if1 .taken) in
+    (c .status .ensures ∙ r .0, r .1)
+
+repair-requires : tie.Need-repair-requires
+repair-requires c κs = search needs
+
+tell-requires : tie.Need-tell-requires
+tell-requires c κs =
+    let a = c .before in
+    let s = a .before .before .before .before .args in
+    word-length (s .frame .now) (s .word .now) (a .before .if1 .left) (a .repair .result) (a .repair .ensures .0 .1)
+
+same-length : tie.Need-same-length
+same-length c = search needs
+
+returns-2 : tie.Need-returns-2
+returns-2 c =
+    let t = c .before .before in
+    let a = t .before .before in
+    let s = a .before .before .before .before .args in
+    told (s .frame .now) (s .word .now) (a .before .if1 .left) (a .repair .result) (a .repair .ensures .0 .1) (t .tell .result) (t .tell .last .1 .0) (t .tell .ensures .0) (t .tell .ensures .1)
+
+pub repair-register-spec : {M : Type 1} → statement M
+repair-register-spec =
+    tie.close
+    (tie.spec status-requires returns repair-requires tell-requires same-length returns-2)
