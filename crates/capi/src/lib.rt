@@ -22,6 +22,15 @@ pub extern "C" fn gvz_repair(frame: &[u8], word: &mut [u8]) -> u32
     flat_repair::repair(frame, word)
 }
 
+// The same answers by the second engine.
+#[no_mangle]
+pub extern "C" fn gvz_repair_register(frame: &[u8], word: &mut [u8]) -> u32
+    ensures { λ r. ⌜ r ≡ repairStatus (now (frame .entry)) (now (word .entry)) ⌝ }
+    ensures { λ _. ⌜ now (word .exit) ≡ repairWord (now (frame .entry)) (now (word .entry)) ⌝ }
+{
+    flat_repair::repair_register(frame, word)
+}
+
 #[no_mangle]
 pub extern "C" fn gvz_frame_read(frame: &[u8], values: &mut [u64]) -> u32
     ensures { λ r. ⌜ r ≡ frameReadStatus (now (frame .entry)) (now (values .entry)) ⌝ }
