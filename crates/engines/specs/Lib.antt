@@ -1,0 +1,2 @@
+pub mod ExactlyIf
+pub mod Promises
