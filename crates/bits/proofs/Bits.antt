@@ -9,7 +9,7 @@ use native.Mathlib.Numerals.{one-add, add-one}
 use native.Mathlib.Omega.{arith}
 use lib.Dec.{eqb}
 use lib.ListN.{length, getD, set, take, drop, replicate, length-append, length-take, length-drop, take-append-drop, List·getD-append}
-use lib.Seq.{take-at, drop-at, getD-append-add, length-take-le, set-split, set-getD}
+use lib.Seq.{take-at, drop-at, take-append-le, drop-append-le, getD-append-add, length-take-le, set-split, set-getD}
 use lib.Pow.{pow-mono, pow-add, shr-shr, high, low, mod-pow-add}
 use Rattle.bits.specs.Bits.{digit, odd, value, bitsOf, bits, bytes, Bytes}
 
@@ -133,6 +133,17 @@ pub length-bytes : (n : ℕ) (bs : List Bool) → length (bytes n bs) ≡ n
 unfolding bytes
 length-bytes zero bs = refl
 length-bytes (suc n) bs = ap suc (length-bytes n (drop 8 bs))
+
+-- the bytes of a row of bits that begins with whole bytes
+pub bytes-append : (a b : ℕ) (x y : List Bool) → length x ≡ 8 * a → bytes (a + b) (x ++ y) ≡ bytes a x ++ bytes b y
+unfolding bytes
+bytes-append zero b [] y e = ap (λ n. bytes n y) (let q : 0 + b ≡ b = omega arith in q)
+bytes-append zero b (c ∷ x) y e = absurd (omega arith)
+bytes-append (suc a) b x y e =
+    let l : 8 ≤ length x = omega arith in
+    ap (λ n. bytes n (x ++ y)) (let q : suc a + b ≡ suc (a + b) = omega arith in q)
+    ∙ ap₂ (λ u v. value u ∷ bytes (a + b) v) (take-append-le 8 x y l) (drop-append-le 8 x y l)
+    ∙ ap (value (take 8 x) ∷_) (bytes-append a b (drop 8 x) y (length-drop 8 x ∙ omega arith))
 
 -- bit r of byte q
 pub getD-bits : (s : List ℕ) (q r : ℕ) → r < 8 → q < length s → getD (bits s) (8 * q + r) false ≡ odd (getD s q 0 / 2 ^ (7 - r))

@@ -5,14 +5,17 @@ use mathlib.Core.Path.{_≡_, refl, sym, ap, ap₂, _∙_, subst}
 use mathlib.Core.Bool.{Bool, true, false, cond, and-eq-true-iff, and-false}
 use mathlib.Core.List.{List, _++_, append-assoc}
 use Prim.Native.Nat.{ℕ, suc, _+_, _-_, _*_, _/_, _%_, _^_, _≤_, _<_}
+use native.Mathlib.Nat.{mod-eq-of-lt, div-one, mul-assoc, add-mul}
 use native.Mathlib.Omega.{arith}
+use lib.Bits.{bitOr, or-shifted}
 use lib.Dec.{leb}
 use borrow.Author.Tests.{le-leb, lt-leb, leb-true}
+use lib.Pow.{pow-add, shl-lt, high, low}
 use lib.ListN.{length, getD, set, take, drop, length-append, length-take, length-drop, List·getD-append}
 use lib.Seq.{paste, take-at, drop-at, getD-append-add, length-take-le, getD-take, getD-drop, drop-drop, drop-cons, take-add, take-append-le, drop-append-le, length-paste-head, length-paste, ext-getD, take-paste, drop-paste, take-all}
 use Rattle.bits.specs.Bits.{value, bitsOf, bits, bytes}
 use Rattle.bits.specs.Field.{field, putBits, within, getOf, putOf}
-use Rattle.bits.proofs.Bits.{length-bitsOf, length-bits, length-bytes, bits-bytes, value-bitsOf, value-bitsOf-fit, value-append, value-lt, bitsOf-value, bitsOf-add, take-drop-bitsOf, bits-drop, bits-split, bits-set}
+use Rattle.bits.proofs.Bits.{length-bitsOf, length-bits, length-bytes, bits-bytes, value-bitsOf, value-bitsOf-fit, value-append, value-lt, value-take-lt, value-inj, bitsOf-value, bitsOf-add, take-drop-bitsOf, bits-drop, bits-split, bits-set}
 
 -- ---- the test that a field lies in the bytes
 
@@ -145,6 +148,35 @@ field-add s k i n h =
     ap value (take-add i n (drop k l) ∙ ap (λ (d : List Bool). take i (drop k l) ++ take n d) (drop-drop i k l))
     ∙ value-append (take i (drop k l)) (take n (drop (k + i) l))
     ∙ ap (λ (m : ℕ). field s k i * 2 ^ m + field s (k + i) n) e
+
+-- the n bits from bit a of a field on, which has t bits after them
+pub bits-of-field : (s : List ℕ) (k a n t : ℕ) → k + (a + n + t) ≤ 8 * length s → take n (drop (k + a) (bits s)) ≡ bitsOf n (field s k (a + n + t) / 2 ^ t)
+bits-of-field s k a n t h =
+    let l : List Bool = take n (drop (k + a) (bits s)) in
+    let ln : length l ≡ n = length-take-le n (drop (k + a) (bits s)) (rw length-drop (omega (arith, length-bits s))) in
+    let up : field s k (a + n + t) / 2 ^ t ≡ field s k a * 2 ^ n + field s (k + a) n =
+    ap (_/ 2 ^ t) (field-add s k (a + n) t (omega arith)) ∙ high (field s k (a + n)) t (value-take-lt t (drop (k + (a + n)) (bits s))) ∙ field-add s k a n (omega arith) in
+    let cut : field s k (a + n + t) / 2 ^ t % 2 ^ n ≡ value l = ap (_% 2 ^ n) up ∙ low (field s k a) n (value-take-lt n (drop (k + a) (bits s))) in
+    value-inj l (bitsOf n (field s k (a + n + t) / 2 ^ t)) (ln ∙ sym (length-bitsOf n (field s k (a + n + t) / 2 ^ t)))
+    (sym (value-bitsOf n (field s k (a + n + t) / 2 ^ t) ∙ cut))
+
+-- a byte after a field, moved on by m bits
+pub field-byte : (s : List ℕ) (q j m b v acc : ℕ) → q + j < length s → b ≡ getD s (q + j) 0 → b < 256 → acc ≡ field s (8 * q) (8 * j) * 2 ^ (8 + m) → v ≡ b * 2 ^ m
+    → bitOr acc v ≡ field s (8 * q) (8 * j + 8) * 2 ^ m
+field-byte s q j m b v acc h hb lb ha hv =
+    let a : ℕ = field s (8 * q) (8 * j) in
+    let one : field s (8 * q + 8 * j) 8 ≡ b =
+    ap (λ k. field s k 8) (let e : 8 * q + 8 * j ≡ 8 * (q + j) + 0 = omega arith in e)
+    ∙ field-part s (q + j) 0 8 h (omega arith)
+    ∙ ap (λ x. x / 1 % 256) (sym hb)
+    ∙ ap (_% 256) (div-one b)
+    ∙ mod-eq-of-lt lb in
+    ap₂ bitOr ha hv
+    ∙ or-shifted a (8 + m) (b * 2 ^ m) (shl-lt 8 m lb)
+    ∙ ap (λ n. a * n + b * 2 ^ m) (pow-add 2 8 m)
+    ∙ ap (_+ b * 2 ^ m) (sym (mul-assoc a (2 ^ 8) (2 ^ m)))
+    ∙ sym (add-mul (a * 2 ^ 8) b (2 ^ m))
+    ∙ ap (_* 2 ^ m) (sym (field-add s (8 * q) (8 * j) 8 (omega arith) ∙ ap (a * 2 ^ 8 +_) one))
 
 -- what stands between p and s replaced
 paste-between : (p m s x : List Bool) (k n : ℕ) → length p ≡ k → length m ≡ n → length x ≡ n → paste (p ++ (m ++ s)) k x n ≡ p ++ (x ++ s)

@@ -1,4 +1,4 @@
--- A word whose sums are even on all 273 rows is a code word; and the rows 0 to 81 decide already. Assumes nothing.
+-- A word whose sums are even on all 273 rows is a code word; and any 82 neighbouring rows decide already. Assumes nothing.
 use mathlib.Core.Path.{_≡_, refl, sym, ap, ap₂, _∙_}
 use mathlib.Core.Bool.{Bool, true, false, not, _&&_, and-false}
 use mathlib.Core.List.{List, [], _∷_, _++_}
@@ -116,7 +116,7 @@ even-word w h e =
     long : length r ≡ 82
     long = length-remainder generatorLow 105 w (h ∙ ap (105 +_) (sym length-low)) ∙ length-low
 
--- ---- the rows 0 to 81 decide
+-- ---- any 82 neighbouring rows decide, since each row is the sum of 17 of the 82 before it
 
 -- every place is on an even number of the rows s - k, for the powers k of the generator
 powers-test : T (below 273 (λ s. not (sumOver (onRow s) powers)))
@@ -156,21 +156,26 @@ last-power : (f : ℕ → Bool) → ((k : ℕ) → 0 < k → k < 83 → f k ≡ 
 unfolding powers upper
 last-power f e = last f upper tt e
 
-module _ (w : List Bool) (h : length w ≡ 187) (e : (s : ℕ) → s < 82 → syndrome w s ≡ false) where
-  even-below : (n s : ℕ) → s < n → s < 273 → syndrome w s ≡ false
+module _ (w : List Bool) (h : length w ≡ 187) (from : ℕ) (hf : from < 273) (e : (j : ℕ) → j < 82 → syndrome w ((from + j) % 273) ≡ false) where
+  even-below : (n j : ℕ) → j < n → syndrome w ((from + j) % 273) ≡ false
   unfolding mixed
-  even-below zero s l hs = absurd (omega arith)
-  even-below (suc n) s l hs = go (even-below n) (ltb s 82) refl
+  even-below zero j l = absurd (omega arith)
+  even-below (suc n) j l = go (even-below n) (ltb j 82) refl
     where
-      go : ((s : ℕ) → s < n → s < 273 → syndrome w s ≡ false) → (t : Bool) → ltb s 82 ≡ t → syndrome w s ≡ false
-      go ih true q = e s (ltb-true s 82 q)
+      s : ℕ
+      s = (from + j) % 273
+
+      go : ((j : ℕ) → j < n → syndrome w ((from + j) % 273) ≡ false) → (t : Bool) → ltb j 82 ≡ t → syndrome w s ≡ false
+      go ih true q = e j (ltb-true j 82 q)
       go ih false q =
-          let m = ltb-false s 82 q in
+          let m = ltb-false j 82 q in
           ap (syndrome w) (let z : s ≡ (s + 273 - 0) % 273 = omega arith in z)
           ∙ sym
           (last-power (λ k. syndrome w ((s + 273 - k) % 273))
-          (λ k hk hk′. ap (syndrome w) (let z : (s + 273 - k) % 273 ≡ s - k = omega arith in z) ∙ ih (s - k) (omega arith) (omega arith)))
-          ∙ mixed-powers w s hs (omega arith)
+          (λ k hk hk′. ap (syndrome w) (let z : (s + 273 - k) % 273 ≡ (from + (j - k)) % 273 = omega arith in z) ∙ ih (j - k) (omega arith)))
+          ∙ mixed-powers w s (omega arith) (omega arith)
 
-  pub first-rows-word : CodeWord w
-  first-rows-word = even-word w h (λ s hs. even-below 273 s hs hs)
+  pub neighbours-word : CodeWord w
+  neighbours-word =
+      even-word w h
+      (λ s hs. ap (syndrome w) (let z : s ≡ (from + (s + 273 - from) % 273) % 273 = omega arith in z) ∙ even-below 273 ((s + 273 - from) % 273) (omega arith))

@@ -10,7 +10,7 @@ use lib.Dec.{leb}
 use lib.ListN.{length}
 use borrow.Author.Tests.{eq-eqb, ne-eqb, le-leb, lt-leb}
 use Rattle.gf2.specs.Polynomial.{_⊕_, add}
-use Rattle.gf2.proofs.Sum.{xor-self, length-add}
+use Rattle.gf2.proofs.Sum.{length-add, add-self}
 use Rattle.dsc.specs.Code.{CodeWord, dist, isCodeWord}
 use Rattle.dsc.specs.CheckTable.{coefficient, failures}
 use Rattle.dsc.specs.Repair.{beyond, decode, repairedTo, refusedWith, answerTo}
@@ -40,19 +40,19 @@ module _ (r c : List Bool) (h : length r ≡ 187) (k : CodeWord c) where
       go true e = le-leb 9 (failures r p) (omega (arith, n .struck e, same)) ∙ sym e
       go false e = lt-leb 9 (failures r p) (omega (arith, n .missed e, same)) ∙ sym e
 
-flips : (r w c : List Bool) → length w ≡ length c → ((p : ℕ) → p < length w → leb 9 (failures r p) ≡ coefficient (add w c) p) → flipped r w ≡ c
+-- flipping adds the word of those places
+pub flipped-add : (r w e : List Bool) → length w ≡ length e → ((p : ℕ) → p < length w → leb 9 (failures r p) ≡ coefficient e p) → flipped r w ≡ add w e
 unfolding add
-flips r [] [] h m = refl
-flips r [] (b ∷ c) h m = absurd (omega arith)
-flips r (a ∷ w) [] h m = absurd (omega arith)
-flips r (a ∷ w) (b ∷ c) h m =
-    let l : length (add w c) ≡ length w = length-add w c ∙ sym (suc-inj h) in
-    ap₂ _∷_
-    (ap (a ⊕_) (m (length w) (omega arith) ∙ ap (λ t. cond t (a ⊕ b) (coefficient (add w c) (length w))) (eq-eqb (length w) (length (add w c)) (sym l))) ∙ xor-self a b)
-    (flips r w c (suc-inj h) (λ p hp. m p (omega arith) ∙ ap (λ t. cond t (a ⊕ b) (coefficient (add w c) p)) (ne-eqb p (length (add w c)) (λ e. omega arith))))
+flipped-add r [] [] h m = refl
+flipped-add r [] (b ∷ e) h m = absurd (omega arith)
+flipped-add r (a ∷ w) [] h m = absurd (omega arith)
+flipped-add r (a ∷ w) (b ∷ e) h m =
+    ap₂ _∷_ (ap (a ⊕_) (m (length w) (omega arith) ∙ ap (λ t. cond t b (coefficient e (length w))) (eq-eqb (length w) (length e) (suc-inj h))))
+    (flipped-add r w e (suc-inj h) (λ p hp. m p (omega arith) ∙ ap (λ t. cond t b (coefficient e p)) (ne-eqb p (length e) (λ q. omega arith))))
 
 pub flipped-word : (r c : List Bool) → length r ≡ 187 → CodeWord c → dist r c ≤ 8 → flipped r r ≡ c
-flipped-word r c h k d = flips r r c (h ∙ sym (length-word c k)) (λ p hp. majority r c h k d p (omega arith))
+flipped-word r c h k d =
+    flipped-add r r (add r c) (h ∙ sym (length-add r c ∙ length-word c k)) (λ p hp. majority r c h k d p (omega arith)) ∙ add-self r c
 
 -- so where the flipped word is none within eight places, there is none
 pub flipped-none : (r : List Bool) → length r ≡ 187 → (CodeWord (flipped r r) → dist r (flipped r r) ≤ 8 → ⊥) → decode r ≡ beyond

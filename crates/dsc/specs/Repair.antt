@@ -63,21 +63,30 @@ answerTo r beyond = refusedWith 4
 unfoldable pub repairOf : List ℕ → Answer
 repairOf f = cond (eqb (length f) 26) (answerTo (protected f) (decode (protected f))) (refusedWith 1)
 
--- document 01's number of an answer, 0 where it was repaired
-abbrev pub numberOf : Answer → ℕ
-numberOf a = number (a .outcome)
-  where
-    number : Outcome → ℕ
-    number (outcome.Repaired n) = 0
-    number (outcome.Refused n) = n
+-- document 01's number of an outcome, 0 where it was repaired
+abbrev pub outcomeNumber : Outcome → ℕ
+outcomeNumber (outcome.Repaired n) = 0
+outcomeNumber (outcome.Refused n) = n
 
 -- the number of repaired places, 0 on a refusal
+abbrev pub outcomePlaces : Outcome → ℕ
+outcomePlaces (outcome.Repaired n) = n
+outcomePlaces (outcome.Refused n) = 0
+
+-- the same of an answer
+abbrev pub numberOf : Answer → ℕ
+numberOf a = outcomeNumber (a .outcome)
+
 abbrev pub placesOf : Answer → ℕ
-placesOf a = places (a .outcome)
+placesOf a = outcomePlaces (a .outcome)
+
+-- what an answer leaves of a buffer w that is lent for its word: the word where it was repaired, else what was there
+abbrev pub leftIn : Answer → List ℕ → List ℕ
+leftIn a w = left (a .outcome)
   where
-    places : Outcome → ℕ
-    places (outcome.Repaired n) = n
-    places (outcome.Refused n) = 0
+    left : Outcome → List ℕ
+    left (outcome.Repaired n) = a .word
+    left (outcome.Refused n) = w
 
 -- ---- demand 3, of the answer a to the bytes f
 

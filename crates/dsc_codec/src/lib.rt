@@ -1,31 +1,58 @@
-// The repair of the protected part, and its encoder.
+// The repair of the protected part, 64 check rows at a time, and its encoder.
 ghost use mathlib.Core.Path.{_≡_};
 ghost use lib.ListN.{length};
 ghost use Rattle.dsc.specs.Encoding.{encodeOf};
-ghost use Rattle.dsc.specs.Repair.{refusedWith, repairedTo, answerTo, decode, repairOf, Repairs};
+ghost use Rattle.dsc.specs.Repair.{repairedTo, repairOf, leftIn, Repairs};
+ghost use Rattle.dsc_codec.specs.Engine.{held, Fits, Finds};
+use crate::word::Word;
 use dsc::Answer;
+use dsc::Outcome;
 
 mod encoder;
-mod rows;
+mod errors;
+mod product;
+mod sums;
+mod word;
 
-// The repair of 187 received bits.
-fn repair_word(received: &[bool]) -> Answer
-    requires { ⌜ length (now received) ≡ 187 ⌝ }
-    ensures { λ a. ⌜ a ≡ answerTo (now (received .entry)) (decode (now (received .entry))) ⌝ }
+// What the engine finds: a code word within eight places, and in how many it differs, or that there is none.
+enum Found {
+    Near(Word, u8),
+    Far,
+}
+
+// The code word within eight places of 187 received bits. Without its errors the word is a code word exactly where the errors have the received sums.
+fn find(received: Word) -> Found
+    requires { ⌜ Fits received ⌝ }
+    ensures { λ r. ⌜ Finds (held received) r ⌝ }
 {
-    let t = dsc_tables::check_rows::table();
-    if rows::is_code_word(&t, received) {
-        return dsc_bits::repaired(received, 0);
+    let middle = sums::middle_sums(received);
+    if (middle.rows128 | middle.rows192) == 0 {
+        return Found::Near(received, 0);
     }
-    let w = rows::majority(&t, received);
-    if !rows::is_code_word(&t, &w) {
-        return dsc_bits::refused(4);
+    let outer = sums::outer_sums(received);
+    let errors = errors::errors(middle, outer);
+    let theirs = sums::middle_sums(errors);
+    if ((middle.rows128 ^ theirs.rows128) | (middle.rows192 ^ theirs.rows192)) != 0 {
+        return Found::Far;
     }
-    let places = dsc_bits::distance(received, &w);
+    let places = word::weight(errors);
     if 8 < places {
-        return dsc_bits::refused(4);
+        return Found::Far;
     }
-    dsc_bits::repaired(&w, places)
+    let repaired = word::sum(received, errors);
+    Found::Near(repaired, places)
+}
+
+// A repaired word, and in how many places it differs.
+fn repaired(w: Word, places: u8) -> Answer
+    requires { ⌜ Fits w ⌝ }
+    ensures { λ a. ⌜ a ≡ repairedTo (held w) places ⌝ }
+{
+    let word = word::word_bytes(w);
+    Answer {
+        outcome: Outcome::Repaired(places),
+        word,
+    }
 }
 
 // The repair asked for alone: of any bytes, it looks only at B17 to B203, and refuses 1, then 4.
@@ -35,8 +62,33 @@ pub fn repair(frame: &[u8]) -> Answer
     if frame.len() != 26 {
         return dsc_bits::refused(1);
     }
-    let received = dsc_bits::received(frame);
-    repair_word(&received)
+    let received = word::received(frame);
+    let found = find(received);
+    match found {
+        Found::Near(word, places) => repaired(word, places),
+        Found::Far => dsc_bits::refused(4),
+    }
+}
+
+// The same with the word written into a buffer that is lent, which a refusal leaves as it was: no copy of the word is made. The caller has tested the
+// buffer's length.
+pub fn repair_into(frame: &[u8], word: &mut [u8]) -> Outcome
+    requires { ⌜ length (now word) ≡ 26 ⌝ }
+    ensures { λ r. ⌜ r ≡ repairOf (now (frame .entry)) .outcome ⌝ }
+    ensures { λ _. ⌜ now (word .exit) ≡ leftIn (repairOf (now (frame .entry))) (now (word .entry)) ⌝ }
+{
+    if frame.len() != 26 {
+        return Outcome::Refused(1);
+    }
+    let received = word::received(frame);
+    let found = find(received);
+    match found {
+        Found::Near(repaired, places) => {
+            word::put_word(repaired, word);
+            Outcome::Repaired(places)
+        }
+        Found::Far => Outcome::Refused(4),
+    }
 }
 
 // The parity of B17 to B121, written to B122 to B203; all else stays, and bytes that are no frame stay whole.

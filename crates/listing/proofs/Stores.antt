@@ -8,12 +8,8 @@ use lib.Dec.{leb}
 use lib.ListN.{length, set, drop, length-append}
 use lib.Seq.{sets, set-comm, sets-eq}
 use borrow.Author.Tests.{le-leb, lt-leb}
+use Rattle.bits.proofs.Slices.{sets-append}
 use Rattle.listing.specs.Put.{Put}
-
--- two texts stored one after the other are their concatenation stored
-pub sets-append : (l : List ℕ) (i : ℕ) (s t : List ℕ) → sets (sets l i s) (i + length s) t ≡ sets l i (s ++ t)
-sets-append l i [] t = let e : i + 0 ≡ i = omega arith in rw e
-sets-append l i (a ∷ s) t = let e : i + suc (length s) ≡ suc i + length s = omega arith in rw e (sets-append (set l i a) (suc i) s t)
 
 -- a store in front of a text
 pub sets-front : (l : List ℕ) (i j a : ℕ) (s : List ℕ) → j < i → set (sets l i s) j a ≡ sets (set l j a) i s

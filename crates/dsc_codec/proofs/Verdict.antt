@@ -1,0 +1,117 @@
+-- What the engine may answer: the received word, the word without its errors, or refusal 4. Assumes nothing.
+use mathlib.Core.Path.{_≡_, refl, sym, ap, ap₂, _∙_, subst}
+use mathlib.Core.Bool.{Bool, true, false}
+use mathlib.Core.List.{List}
+use mathlib.Core.Logic.{_≢_}
+use Prim.Native.Nat.{ℕ, _+_, _-_, _%_, _^_, _≤_, _<_}
+use native.Mathlib.Omega.{arith}
+use lib.Bits.{bitXor, bitOr}
+use lib.Dec.{ltb}
+use lib.ListN.{length}
+use borrow.Author.Tests.{ltb-true, ltb-false}
+use Rattle.gf2.specs.Polynomial.{_⊕_, add}
+use Rattle.gf2.proofs.Sum.{length-add, add-self}
+use Rattle.lanes.proofs.Lanes.{lane-xor, none-left, none-right, none-both}
+use Rattle.dsc.specs.Code.{weight, dist, isCodeWord}
+use Rattle.dsc.specs.CheckTable.{syndrome}
+use Rattle.dsc.specs.Majority.{flipped}
+use Rattle.dsc.specs.Repair.{protected, wordBytes, repairedTo, refusedWith, answerTo, decode, repairOf, leftIn}
+use Rattle.dsc.specs.declared.Answer.{Answer}
+use Rattle.dsc.specs.declared.Outcome.the-variants as outcome
+use Rattle.dsc.proofs.Answers.{repair-decoded}
+use Rattle.dsc.proofs.Word.{word-tested, tested-word}
+use Rattle.dsc.proofs.CheckRows.{syndrome-add, word-even}
+use Rattle.dsc.proofs.EvenRows.{neighbours-word}
+use Rattle.dsc.proofs.Distance.{dist-same}
+use Rattle.dsc.proofs.Majority.{flipped-add, answer-found, answer-none}
+use Rattle.dsc_codec.specs.Engine.{held, Fits, Sums, AllSums, ErrorsOf, Finds}
+use Rattle.dsc_codec.specs.declared.word.Word.{Word}
+use Rattle.dsc_codec.specs.declared.Found.{Found}
+use Rattle.dsc_codec.specs.declared.Found.the-variants as found
+
+-- the sums of a sum
+pub sums-add : {u w : List Bool} {s n x y : ℕ} → length u ≡ length w → Sums u s n x → Sums w s n y → Sums (add u w) s n (bitXor x y)
+sums-add {u} {w} {s} {n} {x} {y} l ex ey =
+    record { each = λ i h. lane-xor x y i ∙ ap₂ _⊕_ (ex .each i h) (ey .each i h) ∙ sym (syndrome-add u w (s + i) l) }
+
+-- ---- rows 128 to 255 tell a code word
+
+module _ (w : List Bool) (l : length w ≡ 187) {x y : ℕ} (sx : Sums w 128 64 x) (sy : Sums w 192 64 y) where
+  pub even-tested : bitOr x y ≡ 0 → isCodeWord w ≡ true
+  even-tested e = word-tested w (neighbours-word w l 128 (omega arith) (λ j h. go j h (ltb j 64) refl))
+    where
+      go : (j : ℕ) → j < 82 → (t : Bool) → ltb j 64 ≡ t → syndrome w ((128 + j) % 273) ≡ false
+      go j h true q =
+          let m = ltb-true j 64 q in
+          ap (syndrome w) (let z : (128 + j) % 273 ≡ 128 + j = omega arith in z) ∙ sym (sx .each j m) ∙ none-left x y e j
+      go j h false q =
+          let m = ltb-false j 64 q in
+          ap (syndrome w) (let z : (128 + j) % 273 ≡ 192 + (j - 64) = omega arith in z) ∙ sym (sy .each (j - 64) (omega arith)) ∙ none-right x y e (j - 64)
+
+  pub tested-even : x < 2 ^ 64 → y < 2 ^ 64 → isCodeWord w ≡ true → bitOr x y ≡ 0
+  tested-even fx fy t =
+      let k = tested-word w l t in
+      none-both x y fx fy (λ i h. sx .each i h ∙ word-even w k (128 + i) (omega arith)) (λ i h. sy .each i h ∙ word-even w k (192 + i) (omega arith))
+
+  -- a word that needs no repair
+  pub clean : bitOr x y ≡ 0 → repairedTo w 0 ≡ answerTo w (decode w)
+  clean e = answer-found w l w 0 (even-tested e) l (sym (dist-same w)) (omega arith)
+
+-- ---- the received word r without its errors e
+
+-- the errors are those of the majority, and x and y are the sums that are left on rows 128 to 255
+pub record Mends (r e : List Bool) (x y : ℕ) : Type 0 where
+  pub length-r : length r ≡ 187
+  pub length-e : length e ≡ 187
+  pub flips : flipped r r ≡ add r e
+  pub rows128 : Sums (add r e) 128 64 x
+  pub rows192 : Sums (add r e) 192 64 y
+
+-- by the sums of the received word and of its errors, as the functions tell them
+pub mends : {r e : List Bool} {a b c d f g h : ℕ} → length r ≡ 187 → length e ≡ 187 → ErrorsOf a b c d f e
+    → Sums r 128 64 c × Sums r 192 64 d → Sums r 0 64 a × Sums r 64 64 b × Sums r 256 17 f → Sums e 128 64 g × Sums e 192 64 h → Mends r e (bitXor c g) (bitXor d h)
+mends {r} {e} lr le m middle outer theirs =
+    let all : AllSums r _ _ _ _ _ = record { rows0 = outer .0; rows64 = outer .1; rows128 = middle .0; rows192 = middle .1; rows256 = outer .2 } in
+    record {
+      length-r = lr;
+      length-e = le;
+      flips = flipped-add r r e (lr ∙ sym le) (λ p h. sym (m .each r all p (omega arith)));
+      rows128 = sums-add (lr ∙ sym le) (middle .0) (theirs .0);
+      rows192 = sums-add (lr ∙ sym le) (middle .1) (theirs .1);
+    }
+
+module _ {r e : List Bool} {x y : ℕ} (m : Mends r e x y) where
+  length-mended : length (add r e) ≡ 187
+  length-mended = length-add r e ∙ m .length-e
+
+  far : dist r (add r e) ≡ weight e
+  far = ap weight (add-self r e)
+
+  pub no-word : x < 2 ^ 64 → y < 2 ^ 64 → bitOr x y ≢ 0 → refusedWith 4 ≡ answerTo r (decode r)
+  no-word fx fy ne =
+      answer-none r (m .length-r) (add r e) (sym (m .flips)) (λ t d. ne (tested-even (add r e) length-mended (m .rows128) (m .rows192) fx fy t))
+
+  pub too-far : {n : ℕ} → n ≡ weight e → 8 < n → refusedWith 4 ≡ answerTo r (decode r)
+  too-far {n} q l = answer-none r (m .length-r) (add r e) (sym (m .flips)) (λ t d. omega (arith, far))
+
+  pub mended : {n : ℕ} → bitOr x y ≡ 0 → n ≡ weight e → n ≤ 8 → repairedTo (add r e) n ≡ answerTo r (decode r)
+  mended {n} z q l =
+      answer-found r (m .length-r) (add r e) n (even-tested (add r e) length-mended (m .rows128) (m .rows192) z) length-mended (q ∙ sym far) l
+
+-- ---- the answer by what was found, and what stands in a buffer then
+
+pub near : (r : List Bool) (x : Found) {w : Word} {n : ℕ} → Finds r x → x ≡ found.Near w n → Fits w × (repairedTo (held w) n ≡ answerTo r (decode r))
+near r x f e = subst (Finds r) e f
+
+pub far-off : (r : List Bool) (x : Found) → Finds r x → x ≡ found.Far → refusedWith 4 ≡ answerTo r (decode r)
+far-off r x f e = subst (Finds r) e f
+
+pub answered : (f : List ℕ) {r : List Bool} {a : Answer} → length f ≡ 26 → r ≡ protected f → a ≡ answerTo r (decode r) → a ≡ repairOf f
+answered f l e q = q ∙ ap (λ r. answerTo r (decode r)) e ∙ sym (repair-decoded f l (decode (protected f)) refl)
+
+module _ (f w : List ℕ) {n : ℕ} where
+  pub left-refused : refusedWith n ≡ repairOf f → (outcome.Refused n ≡ repairOf f .outcome) × (w ≡ leftIn (repairOf f) w)
+  left-refused e = (ap (λ a. a .outcome) e, ap (λ a. leftIn a w) e)
+
+  pub left-repaired : (c : List Bool) {g : List ℕ} → repairedTo c n ≡ repairOf f → g ≡ wordBytes c → (outcome.Repaired n ≡ repairOf f .outcome) × (g ≡ leftIn (repairOf f) w)
+  left-repaired c e q = (ap (λ a. a .outcome) e, q ∙ ap (λ a. leftIn a w) e)
