@@ -24,8 +24,10 @@ use Rattle.dsc.proofs.CheckRows.{syndrome-add, word-even}
 use Rattle.dsc.proofs.EvenRows.{neighbours-word}
 use Rattle.dsc.proofs.Distance.{dist-same}
 use Rattle.dsc.proofs.Majority.{flipped-add, answer-found, answer-none}
-use Rattle.dsc_codec.specs.Engine.{held, Fits, Sums, AllSums, ErrorsOf, Finds}
-use Rattle.dsc_codec.specs.declared.word.Word.{Word}
+use Rattle.dsc_words.specs.Words.{held, Fits}
+use Rattle.dsc_sums.specs.Sums.{Sums, AllSums, ErrorsOf}
+use Rattle.dsc_codec.specs.Engine.{Finds}
+use Rattle.dsc_words.specs.declared.Word.{Word}
 use Rattle.dsc_codec.specs.declared.Found.{Found}
 use Rattle.dsc_codec.specs.declared.Found.the-variants as found
 

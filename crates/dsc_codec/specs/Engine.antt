@@ -1,77 +1,12 @@
--- How the shipped repair holds a word and its check sums: 64 at a time, in machine words. Only the functions of this crate
--- speak of it; what the box promises (Repair, Promises of dsc) does not.
+-- How the shipped repair comes to its answer. Only the functions of this crate speak of it; what the box promises (Repair, Promises of dsc) does not.
 -- Assumes nothing.
 use mathlib.Core.Path.{_≡_}
-use mathlib.Core.Bool.{Bool, false, cond}
-use mathlib.Core.List.{List, [], _∷_, _++_}
-use Prim.Native.Nat.{ℕ, _+_, _-_, _*_, _^_, _<_}
-use lib.Dec.{leb, ltb}
-use Rattle.bits.specs.Bits.{bitsOf}
-use Rattle.lanes.specs.Lane.{lane, bitAt}
-use Rattle.dsc.specs.Code.{count}
-use Rattle.dsc.specs.CheckTable.{differences, coefficient, sumOver, syndrome, failures}
+use mathlib.Core.Bool.{Bool}
+use mathlib.Core.List.{List}
 use Rattle.dsc.specs.Repair.{decode, repairedTo, refusedWith, answerTo}
-use Rattle.dsc_codec.specs.declared.word.Word.{Word}
+use Rattle.dsc_words.specs.Words.{held, Fits}
 use Rattle.dsc_codec.specs.declared.Found.{Found}
 use Rattle.dsc_codec.specs.declared.Found.the-variants as found
-
--- the word of 187 bits that three machine words hold: bit n of the three is the coefficient of x^n
-unfoldable pub wordOf : ℕ → ℕ → ℕ → List Bool
-wordOf low middle high = bitsOf 59 high ++ (bitsOf 64 middle ++ bitsOf 64 low)
-
--- the same of the struct
-abbrev pub held : Word → List Bool
-held w = wordOf (w .low) (w .middle) (w .high)
-
--- no bit past the 187 is set
-abbrev pub Fits : Word → Type 0
-Fits w = w .high < 2 ^ 59
-
--- ---- the sums on the check rows
-
--- the word moved on by 256 places: the coefficient of x^(n - 256)
-abbrev pub movedBy256 : List Bool → ℕ → Bool
-movedBy256 w n = cond (ltb n 256) false (coefficient w (n - 256))
-
--- the coefficient of x^n in the product of w and the sum of x^d over the differences d
-abbrev pub product : List Bool → ℕ → Bool
-product w n = sumOver (λ d. movedBy256 w (n + 256 - d)) differences
-
--- x is limb k of that product: 64 coefficients
-pub record Limb (w : List Bool) (k x : ℕ) : Type 0 where
-  pub each : (i : ℕ) → i < 64 → lane x i ≡ product w (64 * k + i)
-
--- the first n lanes of x are the sums of w on the rows from s on
-pub record Sums (w : List Bool) (s n x : ℕ) : Type 0 where
-  pub each : (i : ℕ) → i < n → lane x i ≡ syndrome w (s + i)
-
--- five machine words hold the sums on all 273 rows
-pub record AllSums (w : List Bool) (a b c d e : ℕ) : Type 0 where
-  pub rows0 : Sums w 0 64 a
-  pub rows64 : Sums w 64 64 b
-  pub rows128 : Sums w 128 64 c
-  pub rows192 : Sums w 192 64 d
-  pub rows256 : Sums w 256 17 e
-
--- ---- the errors
-
--- z is bits 47 to 110 of the words x and y
-pub record Wrapped (x y z : ℕ) : Type 0 where
-  pub each : (i : ℕ) → i < 64 → lane z i ≡ bitAt (x ∷ y ∷ []) (i + 47)
-
--- the bits of a row of machine words, moved on by i
-abbrev pub movedOn : List ℕ → ℕ → ℕ → Bool
-movedOn ws i p = bitAt ws (i + p)
-
--- lane i of x says that nine or more of the bits at the differences, moved on by i, are set
-pub record MovedMajority (ws : List ℕ) (x : ℕ) : Type 0 where
-  pub each : (i : ℕ) → i < 64 → lane x i ≡ leb 9 (count (movedOn ws i) differences)
-
--- the word e has 1 at each place, and only there, of which nine or more rows fail in the word that has these sums
-pub record ErrorsOf (a b c d e : ℕ) (errors : List Bool) : Type 0 where
-  pub each : (w : List Bool) → AllSums w a b c d e → (p : ℕ) → p < 187 → coefficient errors p ≡ leb 9 (failures w p)
-
--- ---- what is found
 
 -- what the engine finds in the received word r makes the answer to it
 abbrev pub Finds : List Bool → Found → Type 0

@@ -3,16 +3,11 @@ ghost use mathlib.Core.Path.{_≡_};
 ghost use lib.ListN.{length};
 ghost use Rattle.dsc.specs.Encoding.{encodeOf};
 ghost use Rattle.dsc.specs.Repair.{repairedTo, repairOf, leftIn, Repairs};
-ghost use Rattle.dsc_codec.specs.Engine.{held, Fits, Finds};
-use crate::word::Word;
+ghost use Rattle.dsc_words.specs.Words.{held, Fits};
+ghost use Rattle.dsc_codec.specs.Engine.{Finds};
 use dsc::Answer;
 use dsc::Outcome;
-
-mod encoder;
-mod errors;
-mod product;
-mod sums;
-mod word;
+use dsc_words::Word;
 
 // What the engine finds: a code word within eight places, and in how many it differs, or that there is none.
 enum Found {
@@ -25,21 +20,21 @@ fn find(received: Word) -> Found
     requires { ⌜ Fits received ⌝ }
     ensures { λ r. ⌜ Finds (held received) r ⌝ }
 {
-    let middle = sums::middle_sums(received);
+    let middle = dsc_sums::middle_sums(received);
     if (middle.rows128 | middle.rows192) == 0 {
         return Found::Near(received, 0);
     }
-    let outer = sums::outer_sums(received);
-    let errors = errors::errors(middle, outer);
-    let theirs = sums::middle_sums(errors);
+    let outer = dsc_sums::outer_sums(received);
+    let errors = dsc_sums::errors::errors(middle, outer);
+    let theirs = dsc_sums::middle_sums(errors);
     if ((middle.rows128 ^ theirs.rows128) | (middle.rows192 ^ theirs.rows192)) != 0 {
         return Found::Far;
     }
-    let places = word::weight(errors);
+    let places = dsc_words::weight(errors);
     if 8 < places {
         return Found::Far;
     }
-    let repaired = word::sum(received, errors);
+    let repaired = dsc_words::sum(received, errors);
     Found::Near(repaired, places)
 }
 
@@ -48,7 +43,7 @@ fn repaired(w: Word, places: u8) -> Answer
     requires { ⌜ Fits w ⌝ }
     ensures { λ a. ⌜ a ≡ repairedTo (held w) places ⌝ }
 {
-    let word = word::word_bytes(w);
+    let word = dsc_words::word_bytes(w);
     Answer {
         outcome: Outcome::Repaired(places),
         word,
@@ -62,7 +57,7 @@ pub fn repair(frame: &[u8]) -> Answer
     if frame.len() != 26 {
         return dsc_bits::refused(1);
     }
-    let received = word::received(frame);
+    let received = dsc_words::received(frame);
     let found = find(received);
     match found {
         Found::Near(word, places) => repaired(word, places),
@@ -80,11 +75,11 @@ pub fn repair_into(frame: &[u8], word: &mut [u8]) -> Outcome
     if frame.len() != 26 {
         return Outcome::Refused(1);
     }
-    let received = word::received(frame);
+    let received = dsc_words::received(frame);
     let found = find(received);
     match found {
         Found::Near(repaired, places) => {
-            word::put_word(repaired, word);
+            dsc_words::put_word(repaired, word);
             Outcome::Repaired(places)
         }
         Found::Far => Outcome::Refused(4),
@@ -99,7 +94,7 @@ pub fn encode(frame: &mut [u8])
         return;
     }
     let word = dsc_bits::received(frame);
-    let parity = encoder::parity(&word);
+    let parity = dsc_encoder::parity(&word);
     let high = dsc_bits::number(&parity, 0, 41);
     let low = dsc_bits::number(&parity, 41, 41);
     bits::put(frame, 122, 41, high);

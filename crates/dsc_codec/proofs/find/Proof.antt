@@ -4,8 +4,8 @@ use native.Mathlib.Omega.{arith}
 use lib.Bits.{xor-lt}
 use borrow.Author.Needs.{needs}
 use Rattle.dsc.specs.Repair.{repairedTo}
-use Rattle.dsc_codec.specs.Engine.{held}
-use Rattle.dsc_codec.proofs.Words.{length-held}
+use Rattle.dsc_words.specs.Words.{held}
+use Rattle.dsc_words.proofs.Words.{length-held}
 use Rattle.dsc_codec.proofs.Verdict.{clean, mends, no-word, too-far, mended}
 use Rattle.dsc_codec.proofs.find.Statement.{statement}
 use Rattle.dsc_codec.proofs.find.Tie as tie

@@ -2,7 +2,7 @@
 use mathlib.Core.Path.{refl, sym, _∙_}
 use borrow.Author.Needs.{needs}
 use Rattle.dsc.proofs.Answers.{repair-short}
-use Rattle.dsc_codec.specs.Engine.{held}
+use Rattle.dsc_words.specs.Words.{held}
 use Rattle.dsc_codec.proofs.Verdict.{near, far-off, answered, left-refused, left-repaired}
 use Rattle.dsc_codec.proofs.repair_into.Statement.{statement}
 use Rattle.dsc_codec.proofs.repair_into.Tie as tie

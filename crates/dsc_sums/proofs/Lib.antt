@@ -1,0 +1,4 @@
+pub mod Held
+pub mod Products
+pub mod ErrorWord
+pub mod Promises

@@ -1,0 +1,150 @@
+-- Words out of a frame's bytes and into bytes: eight bytes as a machine word, the protected part out of three of them, and back. Assumes nothing.
+use mathlib.Core.Path.{_≡_, refl, sym, ap, ap₂, _∙_}
+use mathlib.Core.Bool.{Bool}
+use mathlib.Core.List.{List, [], _∷_, _++_, append-assoc, append-nil}
+use Prim.Native.Nat.{ℕ, _+_, _-_, _*_, _/_, _%_, _^_, _≤_, _<_}
+use native.Mathlib.Nat.{div-one}
+use native.Mathlib.Omega.{arith}
+use lib.Bits.{bitOr, or-zero-l}
+use lib.ListN.{length, getD, set, take, drop, length-append, drop-of-length-le}
+use lib.Pow as pow
+use lib.Pow.{shl-exact, shl-shr, shr-shr}
+use lib.Seq.{sets, sets-eq, take-add, drop-drop}
+use Rattle.bits.specs.Bits.{digit, value, bitsOf, bits, bytes, Bytes}
+use Rattle.bits.specs.Field.{field}
+use Rattle.bits.proofs.Bits.{length-bitsOf, length-bytes, value-bitsOf, value-take-lt, bitsOf-add, take-drop-bitsOf, bytes-append}
+use Rattle.bits.proofs.Field.{bits-of-field, field-byte}
+use Rattle.bits.proofs.Slices.{sets-append}
+use Rattle.gf2.specs.Polynomial.{zeros}
+use Rattle.lanes.proofs.Number.{bitsOf-wider, bitsOf-low, bitsOf-shl, bitsOf-join}
+use Rattle.dsc.specs.Repair.{protected, wordBytes}
+use Rattle.dsc_bits.proofs.Octets.{bytes-at}
+use Rattle.dsc_words.specs.Words.{wordOf}
+
+-- ---- eight bytes as a machine word
+
+module _ (s : List ℕ) (q : ℕ) (room : q + 8 ≤ length s) (fit : Bytes s) where
+  -- one byte more, moved on by m bits
+  next-byte : (j m b acc : ℕ) → j < 8 → 8 + m ≤ 64 → b ≡ getD s (q + j) 0 → acc ≡ field s (8 * q) (8 * j) * 2 ^ (8 + m)
+      → bitOr acc (b * 2 ^ m % 2 ^ 64) ≡ field s (8 * q) (8 * j + 8) * 2 ^ m
+  next-byte j m b acc h hm eb ea =
+      let lb : b < 256 = omega (arith, fit (q + j)) in
+      field-byte s q j m b (b * 2 ^ m % 2 ^ 64) acc (omega arith) eb lb ea (shl-exact 8 m 64 lb hm)
+
+  -- all eight, in the shape that the code has
+  pub eight-bytes : (b₀ b₁ b₂ b₃ b₄ b₅ b₆ b₇ : ℕ) → b₀ ≡ getD s q 0 → b₁ ≡ getD s (q + 1) 0 → b₂ ≡ getD s (q + 2) 0 → b₃ ≡ getD s (q + 3) 0
+      → b₄ ≡ getD s (q + 4) 0 → b₅ ≡ getD s (q + 5) 0 → b₆ ≡ getD s (q + 6) 0 → b₇ ≡ getD s (q + 7) 0
+      → bitOr (bitOr (bitOr (bitOr (bitOr (bitOr (bitOr (b₀ * 2 ^ 56 % 2 ^ 64) (b₁ * 2 ^ 48 % 2 ^ 64)) (b₂ * 2 ^ 40 % 2 ^ 64)) (b₃ * 2 ^ 32 % 2 ^ 64)) (b₄ * 2 ^ 24 % 2 ^ 64)) (b₅ * 2 ^ 16 % 2 ^ 64)) (b₆ * 2 ^ 8 % 2 ^ 64)) b₇
+      ≡ field s (8 * q) 64
+  unfolding value
+  eight-bytes b₀ b₁ b₂ b₃ b₄ b₅ b₆ b₇ e₀ e₁ e₂ e₃ e₄ e₅ e₆ e₇ =
+      let a₁ = sym (or-zero-l (b₀ * 2 ^ 56 % 2 ^ 64)) ∙ next-byte 0 56 b₀ 0 (omega arith) (omega arith) (e₀ ∙ ap (λ n. getD s n 0) (let e : q ≡ q + 0 = omega arith in e)) refl in
+      let a₂ = next-byte 1 48 b₁ _ (omega arith) (omega arith) e₁ a₁ in
+      let a₃ = next-byte 2 40 b₂ _ (omega arith) (omega arith) e₂ a₂ in
+      let a₄ = next-byte 3 32 b₃ _ (omega arith) (omega arith) e₃ a₃ in
+      let a₅ = next-byte 4 24 b₄ _ (omega arith) (omega arith) e₄ a₄ in
+      let a₆ = next-byte 5 16 b₅ _ (omega arith) (omega arith) e₅ a₅ in
+      let a₇ = next-byte 6 8 b₆ _ (omega arith) (omega arith) e₆ a₆ in
+      field-byte s q 7 0 b₇ b₇ _ (omega arith) e₇ (omega (arith, fit (q + 7))) a₇ (omega arith) ∙ omega arith
+
+-- ---- the protected part out of the last 24 bytes of a frame, as three machine words
+
+module _ (f : List ℕ) (h : length f ≡ 26) where
+  -- the first of them without its first bit and its last four
+  first-word : (z : ℕ) → z ≡ field f 16 64 → bitsOf 59 (z * 2 ^ 1 % 2 ^ 64 / 2 ^ 5) ≡ take 59 (drop 17 (bits f))
+  first-word z ez =
+      ap (bitsOf 59) (pow.field (z * 2 ^ 1) 59 5)
+      ∙ bitsOf-low 59 (z * 2 ^ 1 / 2 ^ 5)
+      ∙ ap (bitsOf 59) (sym (shr-shr (z * 2 ^ 1) 1 4) ∙ ap (_/ 2 ^ 4) (shl-shr z 1 ∙ ez))
+      ∙ sym (bits-of-field f 16 1 59 4 (omega arith))
+
+  -- the last four bits of one, u, and all but the last four of the next, v
+  next-word : (u v k : ℕ) → k + 128 ≤ 208 → u ≡ field f k 64 → v ≡ field f (k + 64) 64
+      → bitsOf 64 (bitOr (v / 2 ^ 4) (u * 2 ^ 60 % 2 ^ 64)) ≡ take 64 (drop (k + 60) (bits f))
+  next-word u v k l eu ev =
+      let fits : field f (k + 64) 64 < 2 ^ 64 = value-take-lt 64 (drop (k + 64) (bits f)) in
+      let place : k + 64 + 0 ≡ k + 60 + 4 = omega arith in
+      bitsOf-join 4 60 v u (omega arith)
+      ∙ ap₂ _++_ (ap (bitsOf 4) (eu ∙ sym (div-one (field f k 64))) ∙ sym (bits-of-field f k 60 4 0 (omega arith)))
+      (ap (λ n. bitsOf 60 (n / 2 ^ 4)) ev
+      ∙ sym (bits-of-field f (k + 64) 0 60 4 (omega arith))
+      ∙ ap (take 60) (ap (λ n. drop n (bits f)) place ∙ sym (drop-drop 4 (k + 60) (bits f))))
+      ∙ sym (take-add 4 60 (drop (k + 60) (bits f)))
+
+  -- the three words that the code makes of them hold the protected part
+  pub three-words : (x y z : ℕ) → x ≡ field f 144 64 → y ≡ field f 80 64 → z ≡ field f 16 64
+      → wordOf (bitOr (x / 2 ^ 4) (y * 2 ^ 60 % 2 ^ 64)) (bitOr (y / 2 ^ 4) (z * 2 ^ 60 % 2 ^ 64)) (z * 2 ^ 1 % 2 ^ 64 / 2 ^ 5) ≡ protected f
+  unfolding wordOf protected
+  three-words x y z ex ey ez =
+      let l = bits f in
+      ap₂ _++_ (first-word z ez) (ap₂ _++_ (next-word z y 16 (omega arith) ez ey) (next-word y x 80 (omega arith) ey ex))
+      ∙ sym
+      (take-add 59 128 (drop 17 l)
+      ∙ ap (λ t. take 59 (drop 17 l) ++ take 128 t) (drop-drop 59 17 l)
+      ∙ ap (take 59 (drop 17 l) ++_) (take-add 64 64 (drop 76 l) ∙ ap (λ t. take 64 (drop 76 l) ++ take 64 t) (drop-drop 64 76 l)))
+
+-- ---- the 26 bytes of a word
+
+-- byte i of a machine word, the highest first
+pub word-byte : (n i : ℕ) → i < 8 → getD (bytes 8 (bitsOf 64 n)) i 0 ≡ n / 2 ^ (56 - 8 * i) % 2 ^ 8
+word-byte n i h =
+    bytes-at 8 (bitsOf 64 n) i h
+    ∙ ap value (take-drop-bitsOf 64 n (8 * i) 8 (omega arith))
+    ∙ value-bitsOf 8 (n / 2 ^ (64 - 8 * i - 8))
+    ∙ ap (λ k. n / 2 ^ k % 2 ^ 8) (let e : 64 - 8 * i - 8 ≡ 56 - 8 * i = omega arith in e)
+
+-- 16 clear bits are two clear bytes
+two-clear : bytes 2 (zeros 16) ≡ 0 ∷ 0 ∷ []
+unfolding bytes value digit
+two-clear = refl
+
+-- two clear bytes and three machine words stored over 26 bytes
+stored : (l : List ℕ) (x y z : ℕ) → length l ≡ 26
+    → sets (sets (sets (set (set l 0 0) 1 0) 2 (bytes 8 (bitsOf 64 z))) 10 (bytes 8 (bitsOf 64 y))) 18 (bytes 8 (bitsOf 64 x))
+    ≡ bytes 26 (zeros 16 ++ (bitsOf 64 z ++ (bitsOf 64 y ++ bitsOf 64 x)))
+stored l x y z h =
+    let len : (n : ℕ) → length (bytes 8 (bitsOf 64 n)) ≡ 8 = λ n. length-bytes 8 (bitsOf 64 n) in
+    let a = bytes 8 (bitsOf 64 z) in
+    let b = bytes 8 (bitsOf 64 y) in
+    let c = bytes 8 (bitsOf 64 x) in
+    let all : List ℕ = 0 ∷ 0 ∷ (a ++ (b ++ c)) in
+    let lb : length (b ++ c) ≡ 16 = length-append b c ∙ ap₂ _+_ (len y) (len x) in
+    let la : length (a ++ (b ++ c)) ≡ 24 = length-append a (b ++ c) ∙ ap₂ _+_ (len z) lb in
+    ap (λ n. sets (sets (sets (set (set l 0 0) 1 0) 2 a) 10 b) n c) (omega (arith, len y))
+    ∙ sets-append (sets (set (set l 0 0) 1 0) 2 a) 10 b c
+    ∙ ap (λ n. sets (sets (set (set l 0 0) 1 0) 2 a) n (b ++ c)) (omega (arith, len z))
+    ∙ sets-append (set (set l 0 0) 1 0) 2 a (b ++ c)
+    ∙ sets-eq all l 0 (omega arith)
+    ∙ ap (all ++_) (drop-of-length-le l {i = 0 + length all} (omega arith))
+    ∙ append-nil all
+    ∙ sym (bytes-append 2 24 (zeros 16) (bitsOf 64 z ++ (bitsOf 64 y ++ bitsOf 64 x)) refl
+    ∙ ap₂ _++_ two-clear
+    (bytes-append 8 16 (bitsOf 64 z) (bitsOf 64 y ++ bitsOf 64 x) (length-bitsOf 64 z)
+    ∙ ap (a ++_) (bytes-append 8 8 (bitsOf 64 y) (bitsOf 64 x) (length-bitsOf 64 y))))
+
+-- parts of three rows, joined as parts of three others
+regroup : (a b c d e z : List Bool) → (a ++ ((b ++ c) ++ (d ++ e))) ++ z ≡ (a ++ b) ++ ((c ++ d) ++ (e ++ z))
+regroup a b c d e z = simp append-assoc
+
+-- the three words that hold a word, stored one after the other
+pub stored-word : (low middle high : ℕ) (l one two three : List ℕ) → length l ≡ 26 → low < 2 ^ 64 → middle < 2 ^ 64 → high < 2 ^ 59
+    → one ≡ sets (set (set l 0 0) 1 0) 2 (bytes 8 (bitsOf 64 (bitOr (middle / 2 ^ 60) (high * 2 ^ 4 % 2 ^ 64))))
+    → two ≡ sets one 10 (bytes 8 (bitsOf 64 (bitOr (low / 2 ^ 60) (middle * 2 ^ 4 % 2 ^ 64))))
+    → three ≡ sets two 18 (bytes 8 (bitsOf 64 (low * 2 ^ 4 % 2 ^ 64)))
+    → three ≡ wordBytes (wordOf low middle high)
+unfolding wordOf wordBytes
+stored-word low middle high l one two three h hl hm hh e₁ e₂ e₃ =
+    let x = low * 2 ^ 4 % 2 ^ 64 in
+    let y = bitOr (low / 2 ^ 60) (middle * 2 ^ 4 % 2 ^ 64) in
+    let z = bitOr (middle / 2 ^ 60) (high * 2 ^ 4 % 2 ^ 64) in
+    let a = bitsOf 59 high in
+    let b = bitsOf 4 (middle / 2 ^ 60) in
+    let c = bitsOf 60 middle in
+    let d = bitsOf 4 (low / 2 ^ 60) in
+    let f = bitsOf 60 low in
+    e₃
+    ∙ ap (λ o. sets o 18 (bytes 8 (bitsOf 64 x))) (e₂ ∙ ap (λ o. sets o 10 (bytes 8 (bitsOf 64 y))) e₁)
+    ∙ stored l x y z h
+    ∙ ap (λ t. bytes 26 (zeros 16 ++ t))
+    (ap₂ _++_ (bitsOf-join 60 4 middle high hm ∙ ap (_++ b) (bitsOf-wider 1 59 high hh)) (ap₂ _++_ (bitsOf-join 60 4 low middle hl) (bitsOf-shl 60 4 low)))
+    ∙ ap (λ t. bytes 26 (zeros 17 ++ t)) (sym (ap₂ (λ m l. (a ++ (m ++ l)) ++ zeros 4) (bitsOf-add 4 60 middle) (bitsOf-add 4 60 low) ∙ regroup a b c d f (zeros 4)))

@@ -1,0 +1,113 @@
+// A word of 187 bits in three machine words: out of a frame's bytes, into bytes, its sum with another and its weight. Only the repair calls these functions; it
+// has tested the frame's length, and no bit past the 187 is ever set, so that both are required.
+ghost use mathlib.Core.Path.{_≡_};
+ghost use Prim.Native.Nat.{_+_, _*_, _%_, _^_, _≤_};
+ghost use lib.ListN.{length};
+ghost use lib.Seq.{sets};
+ghost use Rattle.bits.specs.Bits.{bitsOf, bytes};
+ghost use Rattle.bits.specs.Field.{field};
+ghost use Rattle.gf2.specs.Polynomial.{add};
+ghost use Rattle.dsc.specs.Code.{weight};
+ghost use Rattle.dsc.specs.Repair.{protected, wordBytes};
+ghost use Rattle.dsc_words.specs.Words.{held, Fits};
+
+// Bit n of the three, the lowest first, is the coefficient of x^n.
+pub struct Word {
+    pub low: u64,
+    pub middle: u64,
+    pub high: u64,
+}
+
+fn wide(x: u8) -> u64
+    ensures { λ r. ⌜ r ≡ x ⌝ }
+{
+    x as u64
+}
+
+// Eight bytes from byte `at` on as a number, the first byte highest. In this shape the compiler makes one load of them.
+fn eight(f: &[u8], at: usize) -> u64
+    requires { ⌜ (length (now f) ≡ 26) × (at + 8 ≤ 26) ⌝ }
+    ensures { λ r. ⌜ r ≡ field (now (f .entry)) (8 * at) 64 ⌝ }
+{
+    (wide(f[at]) << 56)
+        | (wide(f[at + 1]) << 48)
+        | (wide(f[at + 2]) << 40)
+        | (wide(f[at + 3]) << 32)
+        | (wide(f[at + 4]) << 24)
+        | (wide(f[at + 5]) << 16)
+        | (wide(f[at + 6]) << 8)
+        | wide(f[at + 7])
+}
+
+// The protected part, B17 to B203.
+pub fn received(f: &[u8]) -> Word
+    requires { ⌜ length (now f) ≡ 26 ⌝ }
+    ensures { λ r. ⌜ Fits r × (held r ≡ protected (now (f .entry))) ⌝ }
+{
+    let x = eight(f, 18);
+    let y = eight(f, 10);
+    let z = eight(f, 2);
+    Word {
+        low: (x >> 4) | (y << 60),
+        middle: (y >> 4) | (z << 60),
+        high: (z << 1) >> 5,
+    }
+}
+
+fn low_byte(n: u64) -> u8
+    ensures { λ r. ⌜ r ≡ n % 2 ^ 8 ⌝ }
+{
+    (n % 256) as u8
+}
+
+// The eight bytes of n from byte `at` on, the highest first.
+fn put_eight(out: &mut [u8], at: usize, n: u64)
+    requires { ⌜ at + 8 ≤ length (now out) ⌝ }
+    ensures { λ _. ⌜ now (out .exit) ≡ sets (now (out .entry)) at (bytes 8 (bitsOf 64 n)) ⌝ }
+{
+    for i in 0..8 {
+        out[at + i] = low_byte(n >> (56 - 8 * i));
+    }
+}
+
+// w at B17 to B203, and 0 elsewhere, into 26 bytes.
+pub fn put_word(w: Word, out: &mut [u8])
+    requires { ⌜ Fits w × (length (now out) ≡ 26) ⌝ }
+    ensures { λ _. ⌜ now (out .exit) ≡ wordBytes (held w) ⌝ }
+{
+    out[0] = 0;
+    out[1] = 0;
+    put_eight(out, 2, (w.middle >> 60) | (w.high << 4));
+    put_eight(out, 10, (w.low >> 60) | (w.middle << 4));
+    put_eight(out, 18, w.low << 4);
+}
+
+// The 26 bytes that hold w at B17 to B203 and 0 elsewhere.
+pub fn word_bytes(w: Word) -> [u8; 26]
+    requires { ⌜ Fits w ⌝ }
+    ensures { λ r. ⌜ r ≡ wordBytes (held w) ⌝ }
+{
+    let mut out = [0; 26];
+    put_word(w, &mut out);
+    out
+}
+
+// The sum of two words.
+pub fn sum(v: Word, e: Word) -> Word
+    requires { ⌜ Fits v × Fits e ⌝ }
+    ensures { λ r. ⌜ Fits r × (held r ≡ add (held v) (held e)) ⌝ }
+{
+    Word {
+        low: v.low ^ e.low,
+        middle: v.middle ^ e.middle,
+        high: v.high ^ e.high,
+    }
+}
+
+// How many bits are set.
+pub fn weight(w: Word) -> u8
+    requires { ⌜ Fits w ⌝ }
+    ensures { λ r. ⌜ r ≡ weight (held w) ⌝ }
+{
+    (lanes::ones(w.low) + lanes::ones(w.middle) + lanes::ones(w.high)) as u8
+}
