@@ -5,9 +5,6 @@ use Prim.Native.Nat.{ℕ}
 use lib.Dec.{eqb}
 use lib.ListN.{length}
 use Rattle.dsc.specs.Repair.{numberOf, placesOf, repairOf}
-use Rattle.dsc.specs.declared.Answer.{Answer}
-use Rattle.dsc.specs.declared.Outcome.{Outcome}
-use Rattle.dsc.specs.declared.Outcome.the-variants as outcome
 use Rattle.flat.specs.Status.{statusOf}
 
 -- a buffer of another length than 26 bytes is 1, else it is the repair's answer
@@ -17,11 +14,3 @@ repairStatus f w = cond (eqb (length w) 26) (statusOf (numberOf (repairOf f)) (p
 -- the repaired word where nothing was refused, else what was there
 unfoldable pub repairWord : (f w : List ℕ) → List ℕ
 repairWord f w = cond (eqb (length w) 26) (cond (eqb (numberOf (repairOf f)) 0) (repairOf f .word) w) w
-
--- what an answer, whichever it is, leaves of w: its word where it is a repair, else what was there
-abbrev pub toldWord : Answer → List ℕ → List ℕ
-toldWord a w = left (a .outcome)
-  where
-    left : Outcome → List ℕ
-    left (outcome.Repaired n) = a .word
-    left (outcome.Refused n) = w

@@ -3,27 +3,35 @@ use dsc::Answer;
 use dsc::Outcome;
 ghost use mathlib.Core.Path.{_≡_};
 ghost use lib.ListN.{length};
-ghost use Rattle.dsc.specs.Repair.{numberOf, placesOf};
+ghost use Rattle.dsc.specs.Repair.{outcomeNumber, outcomePlaces, leftIn};
 ghost use Rattle.flat.specs.Status.{statusOf};
-ghost use Rattle.flat_repair.specs.Repair.{repairStatus, repairWord, toldWord};
+ghost use Rattle.flat_repair.specs.Repair.{repairStatus, repairWord};
 
 // How many bytes a buffer for a word has.
 const WORD_BYTES: usize = 26;
 
-// An engine's answer as a status, and its word into the buffer where it is a repair.
-fn tell(answer: Answer, word: &mut [u8]) -> u32
+// An outcome as a status.
+fn status_of(outcome: Outcome) -> u32
+    ensures { λ r. ⌜ r ≡ statusOf (outcomeNumber outcome) (outcomePlaces outcome) ⌝ }
+{
+    match outcome {
+        Outcome::Repaired(places) => flat::status(0, places),
+        Outcome::Refused(number) => flat::status(number, 0),
+    }
+}
+
+// An answer's word into the buffer where it is a repair.
+fn put_answer(answer: Answer, word: &mut [u8])
     requires { ⌜ length (answer .word) ≡ length (now word) ⌝ }
-    ensures { λ r. ⌜ r ≡ statusOf (numberOf answer) (placesOf answer) ⌝ }
-    ensures { λ _. ⌜ now (word .exit) ≡ toldWord answer (now (word .entry)) ⌝ }
+    ensures { λ _. ⌜ now (word .exit) ≡ leftIn answer (now (word .entry)) ⌝ }
 {
     let outcome = answer.outcome;
     match outcome {
-        Outcome::Repaired(places) => {
+        Outcome::Repaired(_) => {
             let repaired = answer.word;
             bytes::copy(&repaired, word);
-            flat::status(0, places)
         }
-        Outcome::Refused(number) => flat::status(number, 0),
+        Outcome::Refused(_) => {}
     }
 }
 
@@ -35,7 +43,8 @@ pub fn repair(frame: &[u8], word: &mut [u8]) -> u32
     if word.len() != WORD_BYTES {
         return flat::status(1, 0);
     }
-    tell(dsc_codec::repair(frame), word)
+    let outcome = dsc_codec::repair_into(frame, word);
+    status_of(outcome)
 }
 
 // The same by the second engine, the register: slower, for comparison.
@@ -46,5 +55,8 @@ pub fn repair_register(frame: &[u8], word: &mut [u8]) -> u32
     if word.len() != WORD_BYTES {
         return flat::status(1, 0);
     }
-    tell(dsc_register::repair(frame), word)
+    let answer = dsc_register::repair(frame);
+    let outcome = answer.outcome;
+    put_answer(answer, word);
+    status_of(outcome)
 }

@@ -1,7 +1,7 @@
 -- `flat_repair::repair` meets its contract, by the shipped engine. Assumes nothing.
 use mathlib.Core.Path.{_∙_}
 use borrow.Author.Needs.{needs}
-use Rattle.flat_repair.proofs.RepairCases.{word-length, wrong-buffer, told}
+use Rattle.flat_repair.proofs.RepairCases.{wrong-buffer, told}
 use Rattle.flat_repair.proofs.repair.Statement.{statement}
 use Rattle.flat_repair.proofs.repair.Tie as tie
 
@@ -14,26 +14,28 @@ returns c =
     let r = wrong-buffer (s .frame .now) (s .word .now) (c .before .if1 .taken) in
     (c .status .ensures ∙ r .0, r .1)
 
-repair-requires : tie.Need-repair-requires
-repair-requires c κs = search needs
+repair-into-requires : tie.Need-repair-into-requires
+repair-into-requires c κs = search needs
 
-tell-requires : tie.Need-tell-requires
-tell-requires c κs =
-    let a = c .before in
-    let s = a .before .before .before .before .args in
-    word-length (s .frame .now) (s .word .now) (a .before .if1 .left) (a .repair .result) (a .repair .ensures .1)
+status-of-requires : tie.Need-status-of-requires
+status-of-requires c κs = search needs
 
 same-length : tie.Need-same-length
 same-length c = search needs
 
 returns-2 : tie.Need-returns-2
 returns-2 c =
-    let t = c .before .before in
-    let a = t .before .before in
-    let s = a .before .before .before .before .args in
-    told (s .frame .now) (s .word .now) (a .before .if1 .left) (a .repair .result) (a .repair .ensures .1) (t .tell .result) (t .tell .last .1 .0) (t .tell .ensures .0) (t .tell .ensures .1)
+    let a = c .before .before .before in
+    let s = a .before .before .before .before .before .args in
+    told (s .frame .now) (s .word .now) (a .before .before .if1 .left) (a .repair-into .ensures .0) (c .status-of .ensures) (a .repair-into .ensures .1)
 
 pub repair-spec : {M : Type 1} → statement M
 repair-spec =
     tie.close
-    (tie.spec status-requires returns repair-requires tell-requires same-length returns-2)
+    (tie.spec
+    status-requires
+    returns
+    repair-into-requires
+    status-of-requires
+    same-length
+    returns-2)

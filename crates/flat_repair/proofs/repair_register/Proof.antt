@@ -1,6 +1,7 @@
 -- `flat_repair::repair_register` meets its contract, by the register. Assumes nothing.
-use mathlib.Core.Path.{_∙_}
+use mathlib.Core.Path.{ap, _∙_}
 use borrow.Author.Needs.{needs}
+use Rattle.dsc.specs.Repair.{leftIn}
 use Rattle.flat_repair.proofs.RepairCases.{word-length, wrong-buffer, told}
 use Rattle.flat_repair.proofs.repair_register.Statement.{statement}
 use Rattle.flat_repair.proofs.repair_register.Tie as tie
@@ -17,23 +18,35 @@ returns c =
 repair-requires : tie.Need-repair-requires
 repair-requires c κs = search needs
 
-tell-requires : tie.Need-tell-requires
-tell-requires c κs =
+put-answer-requires : tie.Need-put-answer-requires
+put-answer-requires c κs =
     let a = c .before in
     let s = a .before .before .before .before .args in
-    word-length (s .frame .now) (s .word .now) (a .before .if1 .left) (a .repair .result) (a .repair .ensures .0 .1)
+    word-length (s .frame .now) (s .word .now) (a .before .if1 .left) (a .repair .ensures .0 .1)
+
+status-of-requires : tie.Need-status-of-requires
+status-of-requires c κs = search needs
 
 same-length : tie.Need-same-length
 same-length c = search needs
 
 returns-2 : tie.Need-returns-2
 returns-2 c =
-    let t = c .before .before in
-    let a = t .before .before in
+    let p = c .before .before .before in
+    let a = p .before .before in
     let s = a .before .before .before .before .args in
-    told (s .frame .now) (s .word .now) (a .before .if1 .left) (a .repair .result) (a .repair .ensures .0 .1) (t .tell .result) (t .tell .last .1 .0) (t .tell .ensures .0) (t .tell .ensures .1)
+    let e = a .repair .ensures .0 .1 in
+    told (s .frame .now) (s .word .now) (a .before .if1 .left) (ap (λ r. r .outcome) e) (c .status-of .ensures)
+    (p .put-answer .ensures ∙ ap (λ r. leftIn r (s .word .now)) e)
 
 pub repair-register-spec : {M : Type 1} → statement M
 repair-register-spec =
     tie.close
-    (tie.spec status-requires returns repair-requires tell-requires same-length returns-2)
+    (tie.spec
+    status-requires
+    returns
+    repair-requires
+    put-answer-requires
+    status-of-requires
+    same-length
+    returns-2)
