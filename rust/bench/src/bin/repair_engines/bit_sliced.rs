@@ -1,7 +1,7 @@
 //! The repair 64 check rows, and then 64 places, at once, in plain 64-bit arithmetic. A word is a polynomial in limbs of 64 coefficients, the lowest power
 //! first. The sums on the 273 check rows are its product with the sum of x^d over the differences d, modulo x^273 - 1; the odd rows through each place are
 //! counted in bit slices, by carry-save adders. Where each window begins is known to the compiler, so that it costs a shift.
-use gvozdyana::{Refusal, Repaired, FRAME_BYTES};
+use gvozdyana::{Refusal, FRAME_BYTES};
 use reference::code::{DIFFERENCES, FULL, LENGTH};
 
 /// 187 coefficients, and 0 above them.
@@ -132,23 +132,20 @@ fn word_of(frame: &[u8; FRAME_BYTES]) -> Word {
 }
 
 #[inline(always)]
-fn frame_of(word: &Word) -> [u8; FRAME_BYTES] {
+fn put_word(word: &Word, frame: &mut [u8; FRAME_BYTES]) {
     let [low, middle, high] = *word;
-    let mut frame = [0; FRAME_BYTES];
+    frame[..2].fill(0);
     frame[2..10].copy_from_slice(&(high << 4 | middle >> 60).to_be_bytes());
     frame[10..18].copy_from_slice(&(middle << 4 | low >> 60).to_be_bytes());
     frame[18..].copy_from_slice(&(low << 4).to_be_bytes());
-    frame
 }
 
-pub fn repair(frame: &[u8]) -> Result<Repaired, Refusal> {
+pub fn repair_into(frame: &[u8], out: &mut [u8; FRAME_BYTES]) -> Result<u8, Refusal> {
     let word = word_of(frame.try_into().map_err(|_| Refusal::WrongLength)?);
     let received = syndrome(&word);
     if received == [0, 0] {
-        return Ok(Repaired {
-            word: frame_of(&word),
-            places: 0,
-        });
+        put_word(&word, out);
+        return Ok(0);
     }
     let sums = check_sums(&word, received);
     let error = [hits(&sums, 0), hits(&sums, 1), hits(&sums, 2) & HIGHEST];
@@ -159,8 +156,7 @@ pub fn repair(frame: &[u8]) -> Result<Repaired, Refusal> {
     if places > 8 {
         return Err(Refusal::BeyondRepair);
     }
-    Ok(Repaired {
-        word: frame_of(&[word[0] ^ error[0], word[1] ^ error[1], word[2] ^ error[2]]),
-        places: places as u8,
-    })
+    let repaired = [word[0] ^ error[0], word[1] ^ error[1], word[2] ^ error[2]];
+    put_word(&repaired, out);
+    Ok(places as u8)
 }

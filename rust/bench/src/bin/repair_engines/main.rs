@@ -12,16 +12,23 @@ use std::hint::black_box;
 use std::time::Instant;
 
 type Frame = [u8; FRAME_BYTES];
-type Repair = fn(&[u8]) -> Result<Repaired, Refusal>;
+/// The number of places, with the word in the 26 bytes lent for it, which a refusal leaves as they were.
+type Repair = fn(&[u8], &mut Frame) -> Result<u8, Refusal>;
 
 const ROUNDS: usize = 3;
 const MOST_HITS: usize = 12;
 
 const VERSIONS: [(&str, Repair); 4] = [
-    ("straightforward, Rust", straightforward::repair),
-    ("best known, Rust", bit_sliced::repair),
-    ("register, proved", gvozdyana::repair_by_register),
-    ("shipped, proved", gvozdyana::repair),
+    ("straightforward, Rust", straightforward::repair_into),
+    ("best known, Rust", bit_sliced::repair_into),
+    ("register, proved", |frame, word| {
+        let repaired = gvozdyana::repair_by_register(frame)?;
+        *word = repaired.word;
+        Ok(repaired.places)
+    }),
+    ("shipped, proved", |frame, word| {
+        gvozdyana::repair_into(frame, word)
+    }),
 ];
 
 /// Frames with a code word of a random message in each; what was sent, and in how many places it was hit.
@@ -48,6 +55,12 @@ fn words(count: usize, most_hits: usize, random: &mut Random) -> Words {
     words
 }
 
+fn answer(repair: Repair, frame: &[u8]) -> Result<Repaired, Refusal> {
+    let mut word = [0; FRAME_BYTES];
+    let places = repair(frame, &mut word)?;
+    Ok(Repaired { word, places })
+}
+
 /// How many words have each number of hits, and how many of those are accepted.
 #[derive(Clone, Copy, Default)]
 struct Counted {
@@ -59,31 +72,36 @@ struct Counted {
 fn compare(words: &Words) -> [Counted; MOST_HITS + 1] {
     let mut counted = [Counted::default(); MOST_HITS + 1];
     for ((frame, &sent), &hits) in words.frames.iter().zip(&words.sent).zip(&words.hits) {
-        let answer = VERSIONS[0].1(frame);
-        for (name, repair) in &VERSIONS[1..] {
-            assert_eq!(repair(frame), answer, "{name}, {frame:02x?}");
+        let first = answer(VERSIONS[0].1, frame);
+        for &(name, repair) in &VERSIONS[1..] {
+            assert_eq!(answer(repair, frame), first, "{name}, {frame:02x?}");
         }
-        let right = match answer {
+        let right = match first {
             Ok(repaired) if hits <= 8 => {
                 repaired.word == sent && usize::from(repaired.places) == hits
             }
             Ok(repaired) => repaired.word != sent && usize::from(repaired.places) + hits >= 18,
             Err(refusal) => refusal == Refusal::BeyondRepair && hits > 8,
         };
-        assert!(right, "{hits} hits, {frame:02x?}: {answer:?}");
-        assert!(hits != 9 || answer.is_err(), "{frame:02x?}");
+        assert!(right, "{hits} hits, {frame:02x?}: {first:?}");
+        assert!(hits != 9 || first.is_err(), "{frame:02x?}");
         counted[hits].words += 1;
-        counted[hits].accepted += usize::from(answer.is_ok());
+        counted[hits].accepted += usize::from(first.is_ok());
     }
     counted
 }
 
 /// The words accepted, and nanoseconds for each word.
 fn time(frames: &[Frame], repair: Repair) -> (usize, f64) {
+    let mut word = [0; FRAME_BYTES];
     let start = Instant::now();
     let accepted = frames
         .iter()
-        .filter(|&frame| black_box(repair(frame)).is_ok())
+        .filter(|&frame| {
+            let told = repair(frame, &mut word);
+            black_box(&mut word);
+            black_box(told).is_ok()
+        })
         .count();
     let time = start.elapsed().as_nanos() as f64 / frames.len() as f64;
     (accepted, time)
@@ -166,7 +184,7 @@ mod tests {
     fn agree(frame: &[u8]) {
         let plain = reference::repair(frame).map(|r| (r.word, r.places));
         for (name, repair) in VERSIONS {
-            let told = repair(frame)
+            let told = answer(repair, frame)
                 .map(|r| (r.word, r.places))
                 .map_err(Refusal::number);
             assert_eq!(told, plain, "{name}, {frame:02x?}");

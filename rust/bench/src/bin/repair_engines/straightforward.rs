@@ -1,5 +1,5 @@
 //! The repair as the rules put it: a byte for a bit, every check row summed by the table, and every place decided by the rows through it.
-use gvozdyana::{Refusal, Repaired, FRAME_BYTES};
+use gvozdyana::{Refusal, FRAME_BYTES};
 use reference::code::{FULL, LENGTH, ROWS, THROUGH};
 
 /// 1 where the bits at the row's places have an odd sum.
@@ -8,7 +8,7 @@ fn row_sum(word: &[u8; FULL], row: &[u16; 17]) -> u8 {
         .fold(0, |sum, &place| sum ^ word[usize::from(place)])
 }
 
-pub fn repair(frame: &[u8]) -> Result<Repaired, Refusal> {
+pub fn repair_into(frame: &[u8], bytes: &mut [u8; FRAME_BYTES]) -> Result<u8, Refusal> {
     if frame.len() != FRAME_BYTES {
         return Err(Refusal::WrongLength);
     }
@@ -33,13 +33,10 @@ pub fn repair(frame: &[u8]) -> Result<Repaired, Refusal> {
     if places > 8 || ROWS.iter().any(|row| row_sum(&word, row) != 0) {
         return Err(Refusal::BeyondRepair);
     }
-    let mut bytes = [0; FRAME_BYTES];
+    *bytes = [0; FRAME_BYTES];
     for (place, bit) in word[..LENGTH].iter().enumerate() {
         let k = 203 - place;
         bytes[k / 8] |= bit << (7 - k % 8);
     }
-    Ok(Repaired {
-        word: bytes,
-        places,
-    })
+    Ok(places)
 }
