@@ -16,7 +16,7 @@ use Rattle.dsc.proofs.CheckRows.{sum-map, sum-same, differences-below, 
 
 -- ---- counts over 0 .. n - 1
 
-count-upto : (n : ℕ) (f g : ℕ → Bool) → ((s : ℕ) → s < n → f s ≡ g s) → count f (upto n) ≡ count g (upto n)
+pub count-upto : (n : ℕ) (f g : ℕ → Bool) → ((s : ℕ) → s < n → f s ≡ g s) → count f (upto n) ≡ count g (upto n)
 count-upto zero f g e = refl
 count-upto (suc n) f g e = ap₂ (λ b k. bit b + k) (e n (omega arith)) (count-upto n f g (λ s h. e s (omega arith)))
 

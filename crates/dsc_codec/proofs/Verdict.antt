@@ -3,7 +3,7 @@ use mathlib.Core.Path.{_≡_, refl, sym, ap, ap₂, _∙_, subst}
 use mathlib.Core.Bool.{Bool, true, false}
 use mathlib.Core.List.{List}
 use mathlib.Core.Logic.{_≢_}
-use Prim.Native.Nat.{ℕ, _+_, _-_, _%_, _^_, _≤_, _<_}
+use Prim.Native.Nat.{ℕ, _+_, _-_, _%_, _^_, _<_}
 use native.Mathlib.Omega.{arith}
 use lib.Bits.{bitXor, bitOr}
 use lib.Dec.{ltb}
@@ -12,7 +12,7 @@ use borrow.Author.Tests.{ltb-true, ltb-false}
 use Rattle.gf2.specs.Polynomial.{_⊕_, add}
 use Rattle.gf2.proofs.Sum.{length-add, add-self}
 use Rattle.lanes.proofs.Lanes.{lane-xor, none-left, none-right, none-both}
-use Rattle.dsc.specs.Code.{weight, dist, isCodeWord}
+use Rattle.dsc.specs.Code.{weight, isCodeWord}
 use Rattle.dsc.specs.CheckTable.{syndrome}
 use Rattle.dsc.specs.Majority.{flipped}
 use Rattle.dsc.specs.Repair.{protected, wordBytes, repairedTo, refusedWith, answerTo, decode, repairOf, leftIn}
@@ -25,9 +25,12 @@ use Rattle.dsc.proofs.EvenRows.{neighbours-word}
 use Rattle.dsc.proofs.Distance.{dist-same}
 use Rattle.dsc.proofs.Majority.{flipped-add, answer-found, answer-none}
 use Rattle.dsc_words.specs.Words.{held, Fits}
-use Rattle.dsc_sums.specs.Sums.{Sums, AllSums, ErrorsOf}
-use Rattle.dsc_codec.specs.Engine.{Finds}
 use Rattle.dsc_words.specs.declared.Word.{Word}
+use Rattle.dsc_words.proofs.Words.{length-held}
+use Rattle.dsc_sums.specs.Sums.{Sums, AllSums, ErrorsFrom}
+use Rattle.dsc_sums.specs.declared.errors.Pattern.{Pattern}
+use Rattle.dsc_sums.specs.declared.errors.Pattern.the-variants as pattern
+use Rattle.dsc_codec.specs.Engine.{Finds, Located}
 use Rattle.dsc_codec.specs.declared.Found.{Found}
 use Rattle.dsc_codec.specs.declared.Found.the-variants as found
 
@@ -59,46 +62,50 @@ module _ (w : List Bool) (l : length w ≡ 187) {x y : ℕ} (sx : Sums w 128 64 
   pub clean : bitOr x y ≡ 0 → repairedTo w 0 ≡ answerTo w (decode w)
   clean e = answer-found w l w 0 (even-tested e) l (sym (dist-same w)) (omega arith)
 
--- ---- the received word r without its errors e
+-- ---- the errors of the received word r, from its sums
 
--- the errors are those of the majority, and x and y are the sums that are left on rows 128 to 255
-pub record Mends (r e : List Bool) (x y : ℕ) : Type 0 where
-  pub length-r : length r ≡ 187
-  pub length-e : length e ≡ 187
-  pub flips : flipped r r ≡ add r e
-  pub rows128 : Sums (add r e) 128 64 x
-  pub rows192 : Sums (add r e) 192 64 y
+module _ {r : List Bool} {a b c d f : ℕ} (lr : length r ≡ 187) (middle : Sums r 128 64 c × Sums r 192 64 d) (outer : Sums r 0 64 a × Sums r 64 64 b × Sums r 256 17 f) where
+  all-sums : AllSums r a b c d f
+  all-sums = record { rows0 = outer .0; rows64 = outer .1; rows128 = middle .0; rows192 = middle .1; rows256 = outer .2 }
 
--- by the sums of the received word and of its errors, as the functions tell them
-pub mends : {r e : List Bool} {a b c d f g h : ℕ} → length r ≡ 187 → length e ≡ 187 → ErrorsOf a b c d f e
-    → Sums r 128 64 c × Sums r 192 64 d → Sums r 0 64 a × Sums r 64 64 b × Sums r 256 17 f → Sums e 128 64 g × Sums e 192 64 h → Mends r e (bitXor c g) (bitXor d h)
-mends {r} {e} lr le m middle outer theirs =
-    let all : AllSums r _ _ _ _ _ = record { rows0 = outer .0; rows64 = outer .1; rows128 = middle .0; rows192 = middle .1; rows256 = outer .2 } in
-    record {
-      length-r = lr;
-      length-e = le;
-      flips = flipped-add r r e (lr ∙ sym le) (λ p h. sym (m .each r all p (omega arith)));
-      rows128 = sums-add (lr ∙ sym le) (middle .0) (theirs .0);
-      rows192 = sums-add (lr ∙ sym le) (middle .1) (theirs .1);
-    }
+  module _ (x : Pattern) (m : ErrorsFrom a b c d f x) where
+    pub located : {e : Word} {n : ℕ} → x ≡ pattern.Few e n → Fits e × Located r (held e) c d n
+    located {e} q =
+        let k = subst (ErrorsFrom a b c d f) q m in
+        let le = length-held e in (
+          k .0,
+          record {
+            rows128 = middle .0;
+            rows192 = middle .1;
+            flips = flipped-add r r (held e) (lr ∙ sym le) (λ p h. sym (k .1 .each r all-sums p (omega arith)));
+            places = k .2;
+            few = k .3;
+          },
+        )
 
-module _ {r e : List Bool} {x y : ℕ} (m : Mends r e x y) where
+    pub too-far : x ≡ pattern.Many → refusedWith 4 ≡ answerTo r (decode r)
+    too-far q =
+        let k = subst (ErrorsFrom a b c d f) q m in
+        answer-none r lr (flipped r r) refl (λ t d. omega (arith, k .each r lr all-sums))
+
+-- ---- the received word r without its errors e: g and h are the sums of the errors on rows 128 to 255
+
+module _ {r e : List Bool} {c d n g h : ℕ} (lr : length r ≡ 187) (le : length e ≡ 187) (m : Located r e c d n) (theirs : Sums e 128 64 g × Sums e 192 64 h) where
   length-mended : length (add r e) ≡ 187
-  length-mended = length-add r e ∙ m .length-e
+  length-mended = length-add r e ∙ le
 
-  far : dist r (add r e) ≡ weight e
-  far = ap weight (add-self r e)
+  left128 : Sums (add r e) 128 64 (bitXor c g)
+  left128 = sums-add (lr ∙ sym le) (m .rows128) (theirs .0)
 
-  pub no-word : x < 2 ^ 64 → y < 2 ^ 64 → bitOr x y ≢ 0 → refusedWith 4 ≡ answerTo r (decode r)
-  no-word fx fy ne =
-      answer-none r (m .length-r) (add r e) (sym (m .flips)) (λ t d. ne (tested-even (add r e) length-mended (m .rows128) (m .rows192) fx fy t))
+  left192 : Sums (add r e) 192 64 (bitXor d h)
+  left192 = sums-add (lr ∙ sym le) (m .rows192) (theirs .1)
 
-  pub too-far : {n : ℕ} → n ≡ weight e → 8 < n → refusedWith 4 ≡ answerTo r (decode r)
-  too-far {n} q l = answer-none r (m .length-r) (add r e) (sym (m .flips)) (λ t d. omega (arith, far))
+  pub no-word : bitXor c g < 2 ^ 64 → bitXor d h < 2 ^ 64 → bitOr (bitXor c g) (bitXor d h) ≢ 0 → refusedWith 4 ≡ answerTo r (decode r)
+  no-word fx fy ne = answer-none r lr (add r e) (sym (m .flips)) (λ t d. ne (tested-even (add r e) length-mended left128 left192 fx fy t))
 
-  pub mended : {n : ℕ} → bitOr x y ≡ 0 → n ≡ weight e → n ≤ 8 → repairedTo (add r e) n ≡ answerTo r (decode r)
-  mended {n} z q l =
-      answer-found r (m .length-r) (add r e) n (even-tested (add r e) length-mended (m .rows128) (m .rows192) z) length-mended (q ∙ sym far) l
+  pub mended : bitOr (bitXor c g) (bitXor d h) ≡ 0 → repairedTo (add r e) n ≡ answerTo r (decode r)
+  mended z =
+      answer-found r lr (add r e) n (even-tested (add r e) length-mended left128 left192 z) length-mended (m .places ∙ sym (ap weight (add-self r e))) (m .few)
 
 -- ---- the answer by what was found, and what stands in a buffer then
 

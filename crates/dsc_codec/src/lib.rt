@@ -4,9 +4,11 @@ ghost use lib.ListN.{length};
 ghost use Rattle.dsc.specs.Encoding.{encodeOf};
 ghost use Rattle.dsc.specs.Repair.{repairedTo, repairOf, leftIn, Repairs};
 ghost use Rattle.dsc_words.specs.Words.{held, Fits};
-ghost use Rattle.dsc_codec.specs.Engine.{Finds};
+ghost use Rattle.dsc_codec.specs.Engine.{Finds, Located};
 use dsc::Answer;
 use dsc::Outcome;
+use dsc_sums::MiddleSums;
+use dsc_sums::errors::Pattern;
 use dsc_words::Word;
 
 // What the engine finds: a code word within eight places, and in how many it differs, or that there is none.
@@ -15,7 +17,20 @@ enum Found {
     Far,
 }
 
-// The code word within eight places of 187 received bits. Without its errors the word is a code word exactly where the errors have the received sums.
+// The received word without its errors, if that is a code word: it is exactly where the errors have the received sums.
+fn mend(received: Word, middle: MiddleSums, errors: Word, places: u8) -> Found
+    requires { ⌜ Fits received × Fits errors × Located (held received) (held errors) (middle .rows128) (middle .rows192) places ⌝ }
+    ensures { λ r. ⌜ Finds (held received) r ⌝ }
+{
+    let theirs = dsc_sums::middle_sums(errors);
+    if ((middle.rows128 ^ theirs.rows128) | (middle.rows192 ^ theirs.rows192)) != 0 {
+        return Found::Far;
+    }
+    let repaired = dsc_words::sum(received, errors);
+    Found::Near(repaired, places)
+}
+
+// The code word within eight places of 187 received bits.
 fn find(received: Word) -> Found
     requires { ⌜ Fits received ⌝ }
     ensures { λ r. ⌜ Finds (held received) r ⌝ }
@@ -25,17 +40,11 @@ fn find(received: Word) -> Found
         return Found::Near(received, 0);
     }
     let outer = dsc_sums::outer_sums(received);
-    let errors = dsc_sums::errors::errors(middle, outer);
-    let theirs = dsc_sums::middle_sums(errors);
-    if ((middle.rows128 ^ theirs.rows128) | (middle.rows192 ^ theirs.rows192)) != 0 {
-        return Found::Far;
+    let pattern = dsc_sums::errors::errors(middle, outer);
+    match pattern {
+        Pattern::Few(errors, places) => mend(received, middle, errors, places),
+        Pattern::Many => Found::Far,
     }
-    let places = dsc_words::weight(errors);
-    if 8 < places {
-        return Found::Far;
-    }
-    let repaired = dsc_words::sum(received, errors);
-    Found::Near(repaired, places)
 }
 
 // A repaired word, and in how many places it differs.

@@ -1,4 +1,5 @@
 pub mod Held
 pub mod Products
+pub mod Flips
 pub mod ErrorWord
 pub mod Promises

@@ -4,11 +4,16 @@
 use mathlib.Core.Path.{_≡_}
 use mathlib.Core.Bool.{Bool, false, cond}
 use mathlib.Core.List.{List, [], _∷_}
-use Prim.Native.Nat.{ℕ, _+_, _-_, _*_, _<_}
+use Prim.Native.Nat.{ℕ, _+_, _-_, _*_, _≤_, _<_}
 use lib.Dec.{leb, ltb}
+use lib.ListN.{length}
 use Rattle.lanes.specs.Lane.{lane, bitAt}
-use Rattle.dsc.specs.Code.{count}
+use Rattle.dsc.specs.Code.{count, weight, dist}
 use Rattle.dsc.specs.CheckTable.{differences, coefficient, sumOver, syndrome, failures}
+use Rattle.dsc.specs.Majority.{flipped}
+use Rattle.dsc_words.specs.Words.{held, Fits}
+use Rattle.dsc_sums.specs.declared.errors.Pattern.{Pattern}
+use Rattle.dsc_sums.specs.declared.errors.Pattern.the-variants as pattern
 
 -- ---- the sums on the check rows
 
@@ -53,3 +58,12 @@ pub record MovedMajority (ws : List ℕ) (x : ℕ) : Type 0 where
 -- the word e has 1 at each place, and only there, of which nine or more rows fail in the word that has these sums
 pub record ErrorsOf (a b c d e : ℕ) (errors : List Bool) : Type 0 where
   pub each : (w : List Bool) → AllSums w a b c d e → (p : ℕ) → p < 187 → coefficient errors p ≡ leb 9 (failures w p)
+
+-- more than eight places are flipped in every word that has these sums
+pub record ManyErrors (a b c d e : ℕ) : Type 0 where
+  pub each : (w : List Bool) → length w ≡ 187 → AllSums w a b c d e → 8 < dist w (flipped w w)
+
+-- the errors of the words that have these sums
+abbrev pub ErrorsFrom : ℕ → ℕ → ℕ → ℕ → ℕ → Pattern → Type 0
+ErrorsFrom a b c d e (pattern.Few w n) = Fits w × ErrorsOf a b c d e (held w) × (n ≡ weight (held w)) × (n ≤ 8)
+ErrorsFrom a b c d e pattern.Many = ManyErrors a b c d e

@@ -1,7 +1,6 @@
 // The places on which the majority of the check rows fail, 64 places at a time.
 ghost use mathlib.Core.List.{[], _∷_};
-ghost use Rattle.dsc_words.specs.Words.{held, Fits};
-ghost use Rattle.dsc_sums.specs.Sums.{Wrapped, MovedMajority, ErrorsOf};
+ghost use Rattle.dsc_sums.specs.Sums.{Wrapped, MovedMajority, ErrorsFrom};
 use crate::MiddleSums;
 use crate::OuterSums;
 use dsc_words::Word;
@@ -39,23 +38,48 @@ fn wrap(x: u64, y: u64) -> u64
     (x >> 47) | (y << 17)
 }
 
-// The error word: the places of which nine or more of the 17 rows fail.
-pub fn errors(middle: MiddleSums, outer: OuterSums) -> Word
-    ensures { λ r. ⌜ Fits r × ErrorsOf (outer .rows0) (outer .rows64) (middle .rows128) (middle .rows192) (outer .rows256) (held r) ⌝ }
+// The error word and how many places it has, or that they are more than eight.
+pub enum Pattern {
+    Few(Word, u8),
+    Many,
+}
+
+// The error word: the places of which nine or more of the 17 rows fail. The weight is tested after each majority: few errors are the rule, and in different
+// branches the compiler does not mix the adders of two majorities.
+pub fn errors(middle: MiddleSums, outer: OuterSums) -> Pattern
+    ensures { λ r. ⌜ ErrorsFrom (outer .rows0) (outer .rows64) (middle .rows128) (middle .rows192) (outer .rows256) r ⌝ }
 {
     let fourth = wrap(outer.rows256 << 47, outer.rows0);
     let fifth = wrap(outer.rows0, outer.rows64);
     let sixth = wrap(outer.rows64, middle.rows128);
-    let high = majority(middle.rows128, middle.rows192, fourth, fifth, sixth);
-    Word {
-        low: majority(
-            outer.rows0,
-            outer.rows64,
-            middle.rows128,
-            middle.rows192,
-            fourth,
-        ),
-        middle: majority(outer.rows64, middle.rows128, middle.rows192, fourth, fifth),
-        high: (high << 5) >> 5,
+    let low = majority(
+        outer.rows0,
+        outer.rows64,
+        middle.rows128,
+        middle.rows192,
+        fourth,
+    );
+    let first = lanes::ones(low);
+    if 8 < first {
+        return Pattern::Many;
     }
+    let next = majority(outer.rows64, middle.rows128, middle.rows192, fourth, fifth);
+    let second = first + lanes::ones(next);
+    if 8 < second {
+        return Pattern::Many;
+    }
+    let last = majority(middle.rows128, middle.rows192, fourth, fifth, sixth);
+    let high = (last << 5) >> 5;
+    let places = second + lanes::ones(high);
+    if 8 < places {
+        return Pattern::Many;
+    }
+    Pattern::Few(
+        Word {
+            low,
+            middle: next,
+            high,
+        },
+        places as u8,
+    )
 }

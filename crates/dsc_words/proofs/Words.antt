@@ -20,7 +20,7 @@ use Rattle.lanes.specs.Lane.{lane, bitAt}
 use Rattle.lanes.proofs.Lanes.{lane-past}
 use Rattle.lanes.proofs.Number.{add-bitsOf}
 use Rattle.dsc.specs.Code.{bit, count, weight}
-use Rattle.dsc.specs.CheckTable.{coefficient}
+use Rattle.dsc.specs.CheckTable.{coefficient, upto}
 use Rattle.dsc.proofs.CheckRows.{coefficient-at, coefficient-out}
 use Rattle.dsc_bits.proofs.Octets.{digit-bit}
 use Rattle.dsc_words.specs.Words.{wordOf, held}
@@ -145,15 +145,26 @@ weight-bitsOf (suc k) v =
     ∙ ap ones (mod-pow-add v 1 k)
     ∙ ones-cat k (v / 2 ^ k % 2) (v % 2 ^ k) (mod-lt v (pow-pos k)))
 
+weight-whole : (k v : ℕ) → v < 2 ^ k → weight (bitsOf k v) ≡ ones v
+weight-whole k v h = weight-bitsOf k v ∙ ap ones (mod-eq-of-lt h)
+
 pub weight-wordOf : (low middle high : ℕ) → low < 2 ^ 64 → middle < 2 ^ 64 → high < 2 ^ 59 → weight (wordOf low middle high) ≡ ones low + ones middle + ones high
 unfolding wordOf
 weight-wordOf low middle high hl hm hh =
-    let whole : (k v : ℕ) → v < 2 ^ k → weight (bitsOf k v) ≡ ones v = λ k v h. weight-bitsOf k v ∙ ap ones (mod-eq-of-lt h) in
     omega (
       arith,
       weight-append (bitsOf 59 high) (bitsOf 64 middle ++ bitsOf 64 low),
       weight-append (bitsOf 64 middle) (bitsOf 64 low),
-      whole 59 high hh,
-      whole 64 middle hm,
-      whole 64 low hl,
+      weight-whole 59 high hh,
+      weight-whole 64 middle hm,
+      weight-whole 64 low hl,
     )
+
+-- the lanes below k that are set, one by one
+pub count-lanes : (k v : ℕ) → v < 2 ^ k → count (lane v) (upto k) ≡ ones v
+unfolding lane bitsOf
+count-lanes k v h = row k ∙ weight-whole k v h
+  where
+    row : (k : ℕ) → count (lane v) (upto k) ≡ weight (bitsOf k v)
+    row zero = refl
+    row (suc k) = ap (bit (lane v k) +_) (row k)

@@ -1,4 +1,4 @@
-// A word of 187 bits in three machine words: out of a frame's bytes, into bytes, its sum with another and its weight. Only the repair calls these functions; it
+// A word of 187 bits in three machine words: out of a frame's bytes, into bytes, and its sum with another. Only the repair calls these functions; it
 // has tested the frame's length, and no bit past the 187 is ever set, so that both are required.
 ghost use mathlib.Core.Path.{_≡_};
 ghost use Prim.Native.Nat.{_+_, _*_, _%_, _^_, _≤_};
@@ -7,7 +7,6 @@ ghost use lib.Seq.{sets};
 ghost use Rattle.bits.specs.Bits.{bitsOf, bytes};
 ghost use Rattle.bits.specs.Field.{field};
 ghost use Rattle.gf2.specs.Polynomial.{add};
-ghost use Rattle.dsc.specs.Code.{weight};
 ghost use Rattle.dsc.specs.Repair.{protected, wordBytes};
 ghost use Rattle.dsc_words.specs.Words.{held, Fits};
 
@@ -102,12 +101,4 @@ pub fn sum(v: Word, e: Word) -> Word
         middle: v.middle ^ e.middle,
         high: v.high ^ e.high,
     }
-}
-
-// How many bits are set.
-pub fn weight(w: Word) -> u8
-    requires { ⌜ Fits w ⌝ }
-    ensures { λ r. ⌜ r ≡ weight (held w) ⌝ }
-{
-    (lanes::ones(w.low) + lanes::ones(w.middle) + lanes::ones(w.high)) as u8
 }
