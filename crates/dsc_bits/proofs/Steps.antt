@@ -7,14 +7,13 @@ use Prim.Native.Nat.{ℕ, zero, suc, _+_, _-_, _%_, _≤_, _<_}
 use native.Mathlib.Numerals.{add-one}
 use native.Mathlib.Omega.{arith}
 use lib.ListN.{length, getD, set, drop, length-set, length-map, drop-of-length-le}
-use lib.Dec.{eqb, leb}
+use lib.Dec.{eqb}
 use borrow.Author.Tests.{eqb-true, eqb-false}
 use lib.Seq.{drop-cons, ext-getD, getD-set-same, getD-set-other}
 use Rattle.gf2.specs.Polynomial.{_⊕_, add}
 use Rattle.gf2.proofs.Sum.{xor-false, xor-assoc}
 use Rattle.dsc.specs.Code.{count, bit, dist}
-use Rattle.dsc.specs.CheckTable.{differences, row, rowsOf, sumOver, failures}
-use Rattle.dsc.specs.Majority.{flipped}
+use Rattle.dsc.specs.CheckTable.{differences, row, rowsOf, sumOver}
 
 -- `a != b`
 pub ne-xor : (a b : Bool) → not (Bool·beq a b) ≡ a ⊕ b
@@ -106,10 +105,3 @@ length-rows p = length-map differences (λ d. (p + d) % 273) ∙ length-differen
 
 pub rows-at : (p i : ℕ) → i < 17 → getD (rowsOf p) i 0 ≡ (p + getD differences i 0) % 273
 rows-at p i h = getD-map (λ d. (p + d) % 273) differences i (omega (arith, length-differences))
-
--- ---- the flipped word by index
-
-pub flipped-at : (r w : List Bool) (n p : ℕ) → p + n + 1 ≡ length w → getD (flipped r w) n false ≡ getD w n false ⊕ leb 9 (failures r p)
-flipped-at r [] n p h = absurd (omega arith)
-flipped-at r (b ∷ w) zero p h = ap (λ q. b ⊕ leb 9 (failures r q)) (omega arith)
-flipped-at r (b ∷ w) (suc n) p h = flipped-at r w n p (omega arith)

@@ -1,7 +1,8 @@
-//! Times the repair of a million damaged words and of a million clean ones, in one run: straightforward in Rust, the best known in Rust, and by the two
-//! proved engines. All four are compared on every word before; then each round goes through all words with each version, a block of them at a time. The only argument is the number
-//! of words.
+//! Times the repair of a million damaged words and of a million clean ones, in one run: straightforward in Rust, the best known in Rust, the one that was best
+//! known before, and by the two proved engines. All are compared on every word before; then each round goes through all words with each version, a block of
+//! them at a time. The only argument is the number of words.
 mod bit_sliced;
+mod looped;
 mod straightforward;
 
 use gvozdyana::{Refusal, Repaired, FRAME_BYTES};
@@ -18,9 +19,10 @@ type Repair = fn(&[u8], &mut Frame) -> Result<u8, Refusal>;
 const ROUNDS: usize = 3;
 const MOST_HITS: usize = 12;
 
-const VERSIONS: [(&str, Repair); 4] = [
+const VERSIONS: [(&str, Repair); 5] = [
     ("straightforward, Rust", straightforward::repair_into),
     ("best known, Rust", bit_sliced::repair_into),
+    ("best known before, Rust", looped::repair_into),
     ("register, proved", |frame, word| {
         let repaired = gvozdyana::repair_by_register(frame)?;
         *word = repaired.word;
