@@ -1,4 +1,4 @@
 // Writes a line for each frame on standard input, and a last line with their count.
 fn main() {
-    listings::run();
+    listing_io::run();
 }

@@ -1,4 +1,4 @@
 // Repairs the frames on standard input, 26 bytes each, and prints what it did.
 fn main() {
-    repairs::run();
+    frame_text::run(frame_text::Question::Repair);
 }

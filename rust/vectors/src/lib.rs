@@ -1,24 +1,24 @@
-//! What the programs of vectors have to write, made by the plain version.
+//! What the test programs have to write, made by the plain version.
 mod header;
 mod place;
-mod readings;
+mod reading;
 mod receiver;
 mod record;
 mod report;
 
-pub use readings::lines as readings;
+pub use reading::lines as readings;
 
-/// The names whose program's output is stored, in `crates/NAME_vectors`. `expected` knows `receiver` too.
-pub const NAMES: [&str; 5] = ["header", "place", "record", "report", "receiver"];
+/// The test programs whose output is stored, in `crates/NAME/stdout`.
+pub const NAMES: [&str; 5] = ["test_headers", "test_places", "test_records", "test_reports", "test_receiver"];
 
-/// The whole output of a program of vectors.
+/// The whole output of a test program.
 pub fn expected(name: &str) -> Option<String> {
     match name {
-        "header" => Some(header::lines()),
-        "place" => Some(place::lines()),
-        "receiver" => Some(receiver::lines()),
-        "record" => Some(record::lines()),
-        "report" => Some(report::lines()),
+        "test_headers" => Some(header::lines()),
+        "test_places" => Some(place::lines()),
+        "test_receiver" => Some(receiver::lines()),
+        "test_records" => Some(record::lines()),
+        "test_reports" => Some(report::lines()),
         _ => None,
     }
 }

@@ -1,5 +1,5 @@
 //! The frame writer on records of every sort.
-use crate::readings::reading;
+use crate::reading::reading;
 use reference::frame::{write, Record, IDENTIFICATION, LATITUDE, LONGITUDE};
 use std::fmt::Write;
 

@@ -1,4 +1,4 @@
-//! The stored output of each program of vectors, and of the program that reads frames, is the plain version's.
+//! The stored output of each test program, and of the program that reads frames, is the plain version's.
 use std::path::{Path, PathBuf};
 
 fn crates() -> PathBuf {
@@ -14,10 +14,10 @@ fn compared(path: &Path, expected: &str) {
 }
 
 #[test]
-fn programs_of_vectors() {
+fn test_programs() {
     for name in vectors::NAMES {
         let expected = vectors::expected(name).expect("a known name");
-        compared(&crates().join(format!("{name}_vectors/stdout")), &expected);
+        compared(&crates().join(format!("{name}/stdout")), &expected);
     }
 }
 

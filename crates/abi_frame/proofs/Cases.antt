@@ -1,0 +1,46 @@
+-- The cases of the definitions, as the functions come to them. Assumes nothing.
+use mathlib.Core.Path.{_≡_, _∙_, ap, sym}
+use mathlib.Core.Logic.{_≢_}
+use mathlib.Core.List.{List}
+use Prim.Native.Nat.{ℕ}
+use lib.ListN.{length}
+use borrow.Author.Tests.{eq-eqb, ne-eqb}
+use Rattle.frame.specs.Fields.{fields}
+use Rattle.frame.specs.Read.{readOf}
+use Rattle.frame.specs.Write.{writeNumber, writeOf}
+use Rattle.frame.specs.declared.Record.{Record}
+use Rattle.frame.specs.declared.Damage.{Damage}
+use Rattle.frame.specs.declared.Reading.{Reading}
+use Rattle.frame.specs.declared.Reading.the-variants.{Accepted, Refused}
+use Rattle.abi.specs.Status.{statusOf}
+use Rattle.abi_frame.specs.Frame.{recordFrom, frameReadStatus, frameReadRecord, frameWriteStatus, frameWriteBytes}
+
+-- ---- reading: the status n and the buffer t
+
+module _ (f s : List ℕ) {n : ℕ} {t : List ℕ} where
+  pub read-wrong : length s ≢ 18 → n ≡ statusOf 1 0 → t ≡ s → (n ≡ frameReadStatus f s) × (t ≡ frameReadRecord f s)
+  unfolding frameReadStatus frameReadRecord
+  read-wrong h e p = let z = ne-eqb (length s) 18 h in (rw z e, rw z p)
+
+  pub read-accepted : {r : Record} {d : Damage} → length s ≡ 18 → readOf f ≡ Accepted r d → n ≡ statusOf 0 (d .repaired) → t ≡ fields r
+      → (n ≡ frameReadStatus f s) × (t ≡ frameReadRecord f s)
+  unfolding frameReadStatus frameReadRecord
+  read-accepted l e p q = let z = eq-eqb (length s) 18 l in (rw (z, e) p, rw (z, e) q)
+
+  pub read-refused : {m : ℕ} → length s ≡ 18 → readOf f ≡ Refused m → n ≡ statusOf m 0 → t ≡ s → (n ≡ frameReadStatus f s) × (t ≡ frameReadRecord f s)
+  unfolding frameReadStatus frameReadRecord
+  read-refused l e p q = let z = eq-eqb (length s) 18 l in (rw (z, e) p, rw (z, e) q)
+
+-- ---- writing
+
+module _ (v s : List ℕ) {n : ℕ} {t : List ℕ} where
+  pub write-wrong : length v ≢ 18 → n ≡ statusOf 1 0 → t ≡ s → (n ≡ frameWriteStatus v s) × (t ≡ frameWriteBytes v s)
+  unfolding frameWriteStatus frameWriteBytes
+  write-wrong h e p = let z = ne-eqb (length v) 18 h in (rw z e, rw z p)
+
+  pub write-answered : {r : Record} {m : ℕ} → length v ≡ 18 → r ≡ recordFrom v → m ≡ writeNumber r (length s) → n ≡ statusOf m 0 → t ≡ writeOf r s
+      → (n ≡ frameWriteStatus v s) × (t ≡ frameWriteBytes v s)
+  unfolding frameWriteStatus frameWriteBytes
+  write-answered l e a p q =
+      let z = eq-eqb (length v) 18 l in
+      (rw z (p ∙ ap (λ (k : ℕ). statusOf k 0) (a ∙ ap (λ (r : Record). writeNumber r (length s)) e)), rw z (q ∙ ap (λ (r : Record). writeOf r s) e))

@@ -1,0 +1,68 @@
+-- `abi_frame::frame_read` meets its contract. Assumes nothing.
+use mathlib.Core.Path.{refl, sym, _∙_}
+use borrow.Author.Needs.{needs}
+use Rattle.abi_frame.proofs.Cases.{read-wrong, read-accepted, read-refused}
+use Rattle.abi_frame.proofs.frame_read.Statement.{statement}
+use Rattle.abi_frame.proofs.frame_read.Tie as tie
+
+status-requires : tie.Need-status-requires
+status-requires c κs = search needs
+
+returns : tie.Need-returns
+returns c = read-wrong _ _ (c .before .if1 .taken) (c .status .ensures) refl
+
+read-requires : tie.Need-read-requires
+read-requires c κs = search needs
+
+enum-known-message : tie.Need-enum-known-message
+enum-known-message c = search needs
+
+field-values-requires : tie.Need-field-values-requires
+field-values-requires c κs = search needs
+
+slice-aggregate-copy : tie.Need-slice-aggregate-copy
+slice-aggregate-copy c = search needs
+
+copy-requires : tie.Need-copy-requires
+copy-requires c κs = search needs
+
+status-requires-2 : tie.Need-status-requires-2
+status-requires-2 c κs = search needs
+
+enum-known-number : tie.Need-enum-known-number
+enum-known-number c = search needs
+
+status-requires-3 : tie.Need-status-requires-3
+status-requires-3 c κs = search needs
+
+same-length : tie.Need-same-length
+same-length c = search needs
+
+returns-2 : tie.Need-returns-2
+returns-2 c =
+    let read = c .before .before .before .before .before .before .before .before .before .before in
+    read-accepted _ _ (read .before .if1 .left) (sym (read .read .ensures) ∙ c .before .before .before .before .before .before .before .before .message .given .1) (c .status2 .ensures)
+    (c .before .before .before .copy .ensures ∙ c .before .before .before .before .before .before .field-values .ensures)
+
+returns-3 : tie.Need-returns-3
+returns-3 c =
+    let read = c .before .before .before .before in
+    read-refused _ _ (read .before .if1 .left) (sym (read .read .ensures) ∙ c .before .before .number .given .1) (c .status3 .ensures) refl
+
+pub frame-read-spec : {M : Type 1} → statement M
+frame-read-spec =
+    tie.close
+    (tie.spec
+    status-requires
+    returns
+    read-requires
+    enum-known-message
+    field-values-requires
+    slice-aggregate-copy
+    copy-requires
+    status-requires-2
+    enum-known-number
+    status-requires-3
+    same-length
+    returns-2
+    returns-3)

@@ -1,0 +1,41 @@
+-- `abi_frame::frame_write` meets its contract. Assumes nothing.
+use mathlib.Core.Path.{refl}
+use borrow.Author.Needs.{needs}
+use Rattle.abi_frame.proofs.Cases.{write-wrong, write-answered}
+use Rattle.abi_frame.proofs.frame_write.Statement.{statement}
+use Rattle.abi_frame.proofs.frame_write.Tie as tie
+
+status-requires : tie.Need-status-requires
+status-requires c κs = search needs
+
+returns : tie.Need-returns
+returns c = write-wrong _ _ (c .before .if1 .taken) (c .status .ensures) refl
+
+record-from-requires : tie.Need-record-from-requires
+record-from-requires c κs = search needs
+
+write-requires : tie.Need-write-requires
+write-requires c κs = search needs
+
+status-requires-2 : tie.Need-status-requires-2
+status-requires-2 c κs = search needs
+
+same-length : tie.Need-same-length
+same-length c = search needs
+
+returns-2 : tie.Need-returns-2
+returns-2 c =
+    let write = c .before .before .before .write in
+    write-answered _ _ (c .before .before .before .before .before .before .if1 .left) (c .before .before .before .before .before .record-from .ensures) (write .ensures .0) (c .status2 .ensures) (write .ensures .1)
+
+pub frame-write-spec : {M : Type 1} → statement M
+frame-write-spec =
+    tie.close
+    (tie.spec
+    status-requires
+    returns
+    record-from-requires
+    write-requires
+    status-requires-2
+    same-length
+    returns-2)

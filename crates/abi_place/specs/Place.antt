@@ -1,0 +1,54 @@
+-- Places over plain numbers. What each function returns, and what it leaves in its buffer s. Assumes nothing.
+use mathlib.Core.Bool.{cond}
+use mathlib.Core.List.{List, [], _∷_}
+use Prim.Native.Nat.{ℕ}
+use lib.Dec.{eqb}
+use lib.ListN.{length}
+use lib.Ieee.{Float}
+use Rattle.place.specs.Desk.{conversionOf, conversionNumber}
+use Rattle.place.specs.declared.Fields.{Fields}
+use Rattle.place.specs.declared.Conversion.{Conversion}
+use Rattle.place.specs.declared.Conversion.the-variants as conversion
+use Rattle.report.specs.Report.{reportOf, reportNumber}
+use Rattle.report.specs.declared.Reported.{Reported}
+use Rattle.report.specs.declared.Reported.the-variants.{Place, Cancellation, AreasOnly, Nothing, Refused}
+use Rattle.abi.specs.Status.{statusOf}
+use Rattle.abi_frame.specs.Frame.{recordFrom}
+
+-- the case of a report: 0 nothing, 1 place, 2 cancellation, 3 areas only
+abbrev pub reportCase : Reported → ℕ
+reportCase (Place n m d) = 1
+reportCase Cancellation = 2
+reportCase AreasOnly = 3
+reportCase Nothing = 0
+reportCase (Refused n) = 0
+
+-- a record of another length than 18, or a place of another length than 3, is 1
+unfoldable pub reportStatus : (v : List ℕ) (s : List Float) → ℕ
+reportStatus v s =
+    cond (eqb (length v) 18)
+    (cond (eqb (length s) 3) (statusOf (reportNumber (reportOf (recordFrom v))) (reportCase (reportOf (recordFrom v)))) (statusOf 1 0)) (statusOf 1 0)
+
+-- latitude, longitude and depth, of a place alone
+abbrev pub doublesOf : Reported → List Float → List Float
+doublesOf (Place n m d) s = n ∷ m ∷ d ∷ []
+doublesOf Cancellation s = s
+doublesOf AreasOnly s = s
+doublesOf Nothing s = s
+doublesOf (Refused n) s = s
+
+unfoldable pub reportPlace : (v : List ℕ) → List Float → List Float
+reportPlace v s = cond (eqb (length v) 18) (cond (eqb (length s) 3) (doublesOf (reportOf (recordFrom v)) s) s) s
+
+-- the desk's place: fields of another length than 5 are 1
+unfoldable pub deskStatus : (latitude longitude depth : Float) → List ℕ → ℕ
+deskStatus n m d s =
+    cond (eqb (length s) 5) (statusOf (conversionNumber (conversionOf (record { latitude = n; longitude = m; depth = d }))) 0) (statusOf 1 0)
+
+-- south, latitude, west, longitude, depth
+abbrev pub fieldsOf : Conversion → List ℕ → List ℕ
+fieldsOf (conversion.Converted f) s = f .south ∷ f .latitude ∷ f .west ∷ f .longitude ∷ f .depth ∷ []
+fieldsOf (conversion.Refused n) s = s
+
+unfoldable pub deskFields : (latitude longitude depth : Float) → List ℕ → List ℕ
+deskFields n m d s = cond (eqb (length s) 5) (fieldsOf (conversionOf (record { latitude = n; longitude = m; depth = d })) s) s

@@ -1,0 +1,33 @@
+-- The numbers of states. Assumes nothing.
+use mathlib.Core.Path.{_≡_}
+use mathlib.Core.Bool.{_&&_}
+use Prim.Native.Nat.{ℕ, _-_, _≤_, _<_}
+use native.Mathlib.Omega.{arith}
+use lib.Dec.{leb}
+use borrow.Author.Tests.{le-leb, lt-leb}
+use Rattle.follower.specs.declared.Kind.the-variants.{Real, Test}
+use Rattle.follower.specs.declared.Follower.{Follower}
+use Rattle.follower.specs.declared.Follower.the-variants.{Quiet, Active}
+use Rattle.abi_receiver.specs.Receiver.{stateNumber, stateOf}
+
+pub state-small : (s : Follower) → stateNumber s ≤ 11
+state-small Quiet = omega arith
+state-small (Active Real u) = omega arith
+state-small (Active Test u) = omega arith
+
+-- the state of a number, by cases
+pub below-four : (n : ℕ) → n < 4 → Quiet ≡ stateOf n
+unfolding stateOf
+below-four n h = rw (lt-leb 4 n h, lt-leb 8 n (omega arith))
+
+pub to-seven : (n : ℕ) → 4 ≤ n → n ≤ 7 → Active Real (n - 4) ≡ stateOf n
+unfolding stateOf
+to-seven n h l = rw (le-leb 4 n h, le-leb n 7 l)
+
+pub to-eleven : (n : ℕ) → 7 < n → n ≤ 11 → Active Test (n - 8) ≡ stateOf n
+unfolding stateOf
+to-eleven n h l = rw (le-leb 4 n (omega arith), lt-leb n 7 h, le-leb 8 n h, le-leb n 11 l)
+
+pub above-eleven : (n : ℕ) → 11 < n → Quiet ≡ stateOf n
+unfolding stateOf
+above-eleven n h = rw (le-leb 4 n (omega arith), lt-leb n 7 (omega arith), le-leb 8 n (omega arith), lt-leb n 11 h)

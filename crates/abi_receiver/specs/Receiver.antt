@@ -1,0 +1,55 @@
+-- The follower and the captures over plain numbers. What each function returns. Assumes nothing.
+use mathlib.Core.Bool.{cond, _&&_}
+use mathlib.Core.List.{List}
+use Prim.Native.Nat.{ℕ, _+_, _-_, _*_, _%_}
+use lib.Dec.{eqb, leb}
+use Rattle.follower.specs.Follow.{stepOf, eventNumber}
+use Rattle.follower.specs.declared.Kind.the-variants.{Real, Test}
+use Rattle.follower.specs.declared.Event.{Event}
+use Rattle.follower.specs.declared.Event.the-variants as event
+use Rattle.follower.specs.declared.Follower.{Follower}
+use Rattle.follower.specs.declared.Follower.the-variants.{Quiet, Active}
+use Rattle.follower.specs.declared.Step.{Step}
+use Rattle.capture.specs.Capture.{sourceOf, numberAt}
+use Rattle.capture.specs.declared.Tuner.{Tuner}
+use Rattle.capture.specs.declared.Tuner.the-variants.{Neither, Main, Spare}
+use Rattle.abi.specs.Status.{statusOf}
+
+-- a state's number: 0 quiet, 4+u real, 8+u test, for the two low bits u of the update number
+abbrev pub stateNumber : Follower → ℕ
+stateNumber Quiet = 0
+stateNumber (Active Real u) = 4 + u % 4
+stateNumber (Active Test u) = 8 + u % 4
+
+-- the state of a number; a number that no state has is taken for quiet, as after a restart
+unfoldable pub stateOf : ℕ → Follower
+stateOf n = cond (leb 4 n && leb n 7) (Active Real (n - 4)) (cond (leb 8 n && leb n 11) (Active Test (n - 8)) Quiet)
+
+abbrev pub eventCase : Event → ℕ
+eventCase event.Quiet = 0
+eventCase event.Ended = 1
+eventCase event.Begins = 2
+eventCase event.Same = 3
+eventCase event.Changed = 4
+eventCase event.Skipped = 5
+eventCase (event.Refused n) = 6
+
+-- the number, 256 times the event's case and 65536 times the next state's number
+abbrev pub stepStatus : Step → ℕ
+stepStatus t = statusOf (eventNumber (t .event)) (eventCase (t .event)) + 65536 * stateNumber (t .next)
+
+unfoldable pub followStatus : ℕ → List ℕ → ℕ
+followStatus n f = stepStatus (stepOf (stateOf n) f)
+
+-- 0 neither, 1 main, 2 spare
+abbrev pub tunerCase : Tuner → ℕ
+tunerCase Neither = 0
+tunerCase Main = 1
+tunerCase Spare = 2
+
+abbrev pub captureSource : (main spare : List ℕ) → ℕ → ℕ
+captureSource main spare n = tunerCase (sourceOf main spare n)
+
+-- main's number, and 256 times spare's
+abbrev pub captureNumbers : (main spare : List ℕ) → ℕ → ℕ
+captureNumbers main spare n = statusOf (numberAt main n) (numberAt spare n)

@@ -1,2 +1,0 @@
-pub mod ExactlyIf
-pub mod Promises

@@ -1,0 +1,148 @@
+// What the box answers to frames, as lines of text for people and for tests. Of a frame read: `1 accepted 0` and the record's 18 fields, or `2 refused 4`.
+// Of a frame repaired: `1 repaired 0` and the repaired word, or `2 refused 4`. What the lines tell of is proved in `frame_reader` and `dsc_codec`.
+use dsc::Outcome;
+use frame::Reading;
+use frame::Record;
+use libc::STDIN_FILENO;
+use libc::STDOUT_FILENO;
+
+// What is asked of each frame.
+pub enum Question {
+    Read,
+    Repair,
+}
+
+fn text(s: &[u8]) {
+    io::write_all(STDOUT_FILENO, s);
+}
+
+pub fn number(n: u64) {
+    io::print_decimal(STDOUT_FILENO, n);
+}
+
+// A byte, as two hexadecimal digits.
+fn byte(b: u8) {
+    io::print_hex(STDOUT_FILENO, b as u64, 2);
+}
+
+// Bytes, two hexadecimal digits each.
+pub fn bytes(s: &[u8]) {
+    for i in 0..s.len() {
+        byte(s[i]);
+    }
+}
+
+// A space and a field.
+fn field(n: u64) {
+    text(b" ");
+    number(n);
+}
+
+// The 18 fields in their order.
+pub fn record(r: Record) {
+    field(r.reference);
+    field(r.pattern);
+    field(r.identification);
+    field(r.update);
+    field(r.time);
+    field(r.page);
+    field(r.areas);
+    field(r.total);
+    field(r.item);
+    field(r.number);
+    field(r.kind);
+    field(r.south);
+    field(r.latitude);
+    field(r.west);
+    field(r.longitude);
+    field(r.depth);
+    field(r.occurred);
+    field(r.broadcaster);
+}
+
+// What a refusal's line says.
+fn refused(n: u8) {
+    text(b" refused ");
+    number(n as u64);
+}
+
+// What the line of a frame says of its reading.
+fn reading(frame: &[u8]) {
+    match frame_reader::read(frame) {
+        Reading::Accepted(r, d) => {
+            text(b" accepted ");
+            number(d.repaired as u64);
+            record(r);
+        }
+        Reading::Refused(n) => refused(n),
+    }
+}
+
+// What the line of a frame says of its repair.
+fn repair(frame: &[u8]) {
+    let answer = dsc_codec::repair(frame);
+    let outcome = answer.outcome;
+    match outcome {
+        Outcome::Repaired(places) => {
+            text(b" repaired ");
+            number(places as u64);
+            text(b" ");
+            let w = answer.word;
+            bytes(&w);
+        }
+        Outcome::Refused(n) => refused(n),
+    }
+}
+
+// The line of frame n.
+pub fn line(asked: Question, n: u64, frame: &[u8]) {
+    number(n);
+    match asked {
+        Question::Read => reading(frame),
+        Question::Repair => repair(frame),
+    }
+    text(b"\n");
+}
+
+// Reads a piece of 26 bytes and writes its line, and answers whether there was one; a short last piece is a frame.
+fn turn(asked: Question, n: u64) -> bool {
+    let mut piece = [0u8; 26];
+    let got = io::read_full(STDIN_FILENO, &mut piece);
+    if got == 0 {
+        return false;
+    }
+    line(asked, n, &piece[..got]);
+    true
+}
+
+// The lines of the frames on standard input, 26 bytes each, 999,999 at most.
+pub fn run(asked: Question) {
+    let mut n: u64 = 0;
+    while n < 999999 && turn(asked, n + 1) {
+        n += 1;
+    }
+}
+
+// The record of 18 fields in their order.
+pub fn record_of(v: &[u64; 18]) -> Record {
+    Record {
+        reference: v[0],
+        pattern: v[1],
+        identification: v[2],
+        update: v[3],
+        time: v[4],
+        page: v[5],
+        areas: v[6],
+        total: v[7],
+        item: v[8],
+        number: v[9],
+        kind: v[10],
+        south: v[11],
+        latitude: v[12],
+        west: v[13],
+        longitude: v[14],
+        depth: v[15],
+        occurred: v[16],
+        broadcaster: v[17],
+    }
+}

@@ -1,0 +1,125 @@
+// What C and Rust programs call; include/gvozdyana.h declares it all.
+//
+// Every exported function takes any numbers and any bytes of any length. All but gvz_crc32 return a status: the refusal's number in the low 8 bits, 0
+// where there is none, and above them what else they tell. A buffer whose length is wrong is refusal 1, before anything else is looked at, and a refusal
+// leaves every lent buffer as it was. The definitions stand in the specs/ of the crates that are called.
+ghost use mathlib.Core.Path.{_≡_};
+ghost use Rattle.abi_repair.specs.Repair.{repairStatus, repairWord};
+ghost use Rattle.abi_frame.specs.Frame.{frameReadStatus, frameReadRecord, frameWriteStatus, frameWriteBytes};
+ghost use Rattle.abi_place.specs.Place.{reportStatus, reportPlace, deskStatus, deskFields};
+ghost use Rattle.abi_receiver.specs.Receiver.{followStatus, captureSource, captureNumbers};
+ghost use Rattle.abi_header.specs.Header.{headerReadStatus, headerReadValues, headerWriteStatus, headerWriteBytes, layInStatus, takeOutStatus};
+ghost use Rattle.header.specs.Laying.{layInOf, takeOutOf};
+ghost use Rattle.bits.specs.Bits.{bits};
+ghost use Rattle.crc.specs.Crc.{crc32Of};
+
+// The repair asked for alone.
+#[no_mangle]
+pub extern "C" fn gvz_repair(frame: &[u8], word: &mut [u8]) -> u32
+    ensures { λ r. ⌜ r ≡ repairStatus (now (frame .entry)) (now (word .entry)) ⌝ }
+    ensures { λ _. ⌜ now (word .exit) ≡ repairWord (now (frame .entry)) (now (word .entry)) ⌝ }
+{
+    abi_repair::repair(frame, word)
+}
+
+// The same answers by the second engine.
+#[no_mangle]
+pub extern "C" fn gvz_repair_register(frame: &[u8], word: &mut [u8]) -> u32
+    ensures { λ r. ⌜ r ≡ repairStatus (now (frame .entry)) (now (word .entry)) ⌝ }
+    ensures { λ _. ⌜ now (word .exit) ≡ repairWord (now (frame .entry)) (now (word .entry)) ⌝ }
+{
+    abi_repair::repair_register(frame, word)
+}
+
+#[no_mangle]
+pub extern "C" fn gvz_frame_read(frame: &[u8], values: &mut [u64]) -> u32
+    ensures { λ r. ⌜ r ≡ frameReadStatus (now (frame .entry)) (now (values .entry)) ⌝ }
+    ensures { λ _. ⌜ now (values .exit) ≡ frameReadRecord (now (frame .entry)) (now (values .entry)) ⌝ }
+{
+    abi_frame::frame_read(frame, values)
+}
+
+#[no_mangle]
+pub extern "C" fn gvz_frame_write(values: &[u64], frame: &mut [u8]) -> u32
+    ensures { λ r. ⌜ r ≡ frameWriteStatus (now (values .entry)) (now (frame .entry)) ⌝ }
+    ensures { λ _. ⌜ now (frame .exit) ≡ frameWriteBytes (now (values .entry)) (now (frame .entry)) ⌝ }
+{
+    abi_frame::frame_write(values, frame)
+}
+
+#[no_mangle]
+pub extern "C" fn gvz_report(values: &[u64], place: &mut [f64]) -> u32
+    ensures { λ r. ⌜ r ≡ reportStatus (now (values .entry)) (now (place .entry)) ⌝ }
+    ensures { λ _. ⌜ now (place .exit) ≡ reportPlace (now (values .entry)) (now (place .entry)) ⌝ }
+{
+    abi_place::report(values, place)
+}
+
+#[no_mangle]
+pub extern "C" fn gvz_desk(latitude: f64, longitude: f64, depth: f64, fields: &mut [u64]) -> u32
+    ensures { λ r. ⌜ r ≡ deskStatus latitude longitude depth (now (fields .entry)) ⌝ }
+    ensures { λ _. ⌜ now (fields .exit) ≡ deskFields latitude longitude depth (now (fields .entry)) ⌝ }
+{
+    abi_place::desk(latitude, longitude, depth, fields)
+}
+
+#[no_mangle]
+pub extern "C" fn gvz_follow(state: u32, frame: &[u8]) -> u32
+    ensures { λ r. ⌜ r ≡ followStatus state (now (frame .entry)) ⌝ }
+{
+    abi_receiver::follow(state, frame)
+}
+
+#[no_mangle]
+pub extern "C" fn gvz_capture_source(main: &[u8], spare: &[u8], n: u64) -> u32
+    ensures { λ r. ⌜ r ≡ captureSource (now (main .entry)) (now (spare .entry)) n ⌝ }
+{
+    abi_receiver::capture_source(main, spare, n)
+}
+
+#[no_mangle]
+pub extern "C" fn gvz_capture_numbers(main: &[u8], spare: &[u8], n: u64) -> u32
+    ensures { λ r. ⌜ r ≡ captureNumbers (now (main .entry)) (now (spare .entry)) n ⌝ }
+{
+    abi_receiver::capture_numbers(main, spare, n)
+}
+
+#[no_mangle]
+pub extern "C" fn gvz_header_read(header: &[u8], values: &mut [u64]) -> u32
+    ensures { λ r. ⌜ r ≡ headerReadStatus (now (header .entry)) (now (values .entry)) ⌝ }
+    ensures { λ _. ⌜ now (values .exit) ≡ headerReadValues (now (header .entry)) (now (values .entry)) ⌝ }
+{
+    abi_header::header_read(header, values)
+}
+
+#[no_mangle]
+pub extern "C" fn gvz_header_write(values: &[u64], header: &mut [u8]) -> u32
+    ensures { λ r. ⌜ r ≡ headerWriteStatus (now (values .entry)) (now (header .entry)) ⌝ }
+    ensures { λ _. ⌜ now (header .exit) ≡ headerWriteBytes (now (values .entry)) (now (header .entry)) ⌝ }
+{
+    abi_header::header_write(values, header)
+}
+
+#[no_mangle]
+pub extern "C" fn gvz_lay_in(header: &mut [u8], frame: &[u8]) -> u32
+    ensures { λ r. ⌜ r ≡ layInStatus (now (header .entry)) (now (frame .entry)) ⌝ }
+    ensures { λ _. ⌜ now (header .exit) ≡ layInOf (now (header .entry)) (now (frame .entry)) ⌝ }
+{
+    abi_header::lay_in(header, frame)
+}
+
+#[no_mangle]
+pub extern "C" fn gvz_take_out(header: &mut [u8]) -> u32
+    ensures { λ r. ⌜ r ≡ takeOutStatus (now (header .entry)) ⌝ }
+    ensures { λ _. ⌜ now (header .exit) ≡ takeOutOf (now (header .entry)) ⌝ }
+{
+    abi_header::take_out(header)
+}
+
+// The CRC-32 of any bytes, as a header's is taken: nothing is refused, and the answer is the CRC itself.
+#[no_mangle]
+pub extern "C" fn gvz_crc32(bytes: &[u8]) -> u32
+    ensures { λ r. ⌜ r ≡ crc32Of (bits (now (bytes .entry))) ⌝ }
+{
+    crc::crc32(bytes)
+}

@@ -1,4 +1,0 @@
-// The listing of no frames.
-fn main() {
-    listings::run();
-}

@@ -1,0 +1,4 @@
+// The listing of no frames.
+fn main() {
+    listing_io::run();
+}
