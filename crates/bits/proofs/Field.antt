@@ -14,7 +14,7 @@ use lib.Pow.{pow-add, shl-lt, high, low}
 use lib.ListN.{length, getD, set, take, drop, length-append, length-take, length-drop, List·getD-append}
 use lib.Seq.{paste, take-at, drop-at, getD-append-add, length-take-le, getD-take, getD-drop, drop-drop, drop-cons, take-add, take-append-le, drop-append-le, length-paste-head, length-paste, ext-getD, take-paste, drop-paste, take-all}
 use Rattle.bits.specs.Bits.{value, bitsOf, bits, bytes}
-use Rattle.bits.specs.Field.{field, putBits, within, getOf, putOf}
+use Rattle.bits.specs.Field.{fieldAt, putBits, within, getOf, putOf}
 use Rattle.bits.proofs.Bits.{length-bitsOf, length-bits, length-bytes, bits-bytes, value-bitsOf, value-bitsOf-fit, value-append, value-lt, value-take-lt, value-inj, bitsOf-value, bitsOf-add, take-drop-bitsOf, bits-drop, bits-split, bits-set}
 
 -- ---- the test that a field lies in the bytes
@@ -84,7 +84,7 @@ pub getOf-putOf : (s : List ℕ) (k w v : ℕ) → within (length s) k w ≡ tru
 getOf-putOf s k w v e f =
     let h : k + w ≤ 8 * length s = within-true (length s) k w e .1 in
     let t : within (length (putOf s k w v)) k w ≡ true = ap (λ (n : ℕ). within n k w) (length-putOf s k w v) ∙ e in
-    ap (λ (b : Bool). cond b (field (putOf s k w v) k w) 0) t
+    ap (λ (b : Bool). cond b (fieldAt (putOf s k w v) k w) 0) t
     ∙ ap (λ (l : List Bool). value (take w (drop k l))) (bits-putOf s k w v e)
     ∙ put-same (bits s) k w v (rw length-bits h) f
 
@@ -97,13 +97,13 @@ same-bits l m i n e h =
     getD-take n (drop i l) j false jn ∙ getD-drop i l j false ∙ h j jn ∙ sym (getD-take n (drop i m) j false jn ∙ getD-drop i m j false))
 
 -- a field of n bits that ends before the one that is put, or begins after it, stays
-field-before : (s : List ℕ) (k w v i n : ℕ) → within (length s) k w ≡ true → i + n ≤ k → field (putOf s k w v) i n ≡ field s i n
+field-before : (s : List ℕ) (k w v i n : ℕ) → within (length s) k w ≡ true → i + n ≤ k → fieldAt (putOf s k w v) i n ≡ fieldAt s i n
 field-before s k w v i n e h =
     let r = within-true (length s) k w e .1 in
     ap value (same-bits (bits (putOf s k w v)) (bits s) i n (length-bits-putOf s k w v)
     (λ j hj. ap (λ (l : List Bool). getD l (i + j) false) (bits-putOf s k w v e) ∙ put-before (bits s) (bitsOf w v) k w (i + j) (rw length-bits (omega arith)) (omega arith)))
 
-field-after : (s : List ℕ) (k w v i n : ℕ) → within (length s) k w ≡ true → k + w ≤ i → field (putOf s k w v) i n ≡ field s i n
+field-after : (s : List ℕ) (k w v i n : ℕ) → within (length s) k w ≡ true → k + w ≤ i → fieldAt (putOf s k w v) i n ≡ fieldAt s i n
 field-after s k w v i n e h =
     let r = within-true (length s) k w e .1 in
     ap value (same-bits (bits (putOf s k w v)) (bits s) i n (length-bits-putOf s k w v)
@@ -113,10 +113,10 @@ field-after s k w v i n e h =
     ∙ put-after (bits s) (bitsOf w v) k w (i + j - (k + w)) (rw length-bits r) (length-bitsOf w v)
     ∙ ap (λ (x : ℕ). getD (bits s) x false) (sym p)))
 
-apart : (s : List ℕ) (k w v i n : ℕ) → (i + n ≤ k) ⊎ (k + w ≤ i) → (t : Bool) → within (length s) k w ≡ t → field (putOf s k w v) i n ≡ field s i n
+apart : (s : List ℕ) (k w v i n : ℕ) → (i + n ≤ k) ⊎ (k + w ≤ i) → (t : Bool) → within (length s) k w ≡ t → fieldAt (putOf s k w v) i n ≡ fieldAt s i n
 apart s k w v i n (inl h) true e = field-before s k w v i n e h
 apart s k w v i n (inr h) true e = field-after s k w v i n e h
-apart s k w v i n h false e = ap (λ (t : Bool). field (cond t (bytes (length s) (putBits s k w v)) s) i n) e
+apart s k w v i n h false e = ap (λ (t : Bool). fieldAt (cond t (bytes (length s) (putBits s k w v)) s) i n) e
 
 pub getOf-putOf-apart : (s : List ℕ) (k w v i n : ℕ) → (i + n ≤ k) ⊎ (k + w ≤ i) → getOf (putOf s k w v) i n ≡ getOf s i n
 getOf-putOf-apart s k w v i n h =
@@ -137,36 +137,36 @@ take-drop-bits s q r n hq hr =
     ∙ take-append-le n (drop r (bitsOf 8 x)) after (omega arith)
     ∙ take-drop-bitsOf 8 x r n hr
 
-pub field-part : (s : List ℕ) (q r n : ℕ) → q < length s → r + n ≤ 8 → field s (8 * q + r) n ≡ getD s q 0 / 2 ^ (8 - r - n) % 2 ^ n
+pub field-part : (s : List ℕ) (q r n : ℕ) → q < length s → r + n ≤ 8 → fieldAt s (8 * q + r) n ≡ getD s q 0 / 2 ^ (8 - r - n) % 2 ^ n
 field-part s q r n hq hr = ap value (take-drop-bits s q r n hq hr) ∙ value-bitsOf n (getD s q 0 / 2 ^ (8 - r - n))
 
 -- a field is its first i bits and then the n after them
-pub field-add : (s : List ℕ) (k i n : ℕ) → k + i + n ≤ 8 * length s → field s k (i + n) ≡ field s k i * 2 ^ n + field s (k + i) n
+pub field-add : (s : List ℕ) (k i n : ℕ) → k + i + n ≤ 8 * length s → fieldAt s k (i + n) ≡ fieldAt s k i * 2 ^ n + fieldAt s (k + i) n
 field-add s k i n h =
     let l : List Bool = bits s in
     let e : length (take n (drop (k + i) l)) ≡ n = length-take-le n (drop (k + i) l) (rw length-drop (omega (arith, length-bits s))) in
     ap value (take-add i n (drop k l) ∙ ap (λ (d : List Bool). take i (drop k l) ++ take n d) (drop-drop i k l))
     ∙ value-append (take i (drop k l)) (take n (drop (k + i) l))
-    ∙ ap (λ (m : ℕ). field s k i * 2 ^ m + field s (k + i) n) e
+    ∙ ap (λ (m : ℕ). fieldAt s k i * 2 ^ m + fieldAt s (k + i) n) e
 
 -- the n bits from bit a of a field on, which has t bits after them
-pub bits-of-field : (s : List ℕ) (k a n t : ℕ) → k + (a + n + t) ≤ 8 * length s → take n (drop (k + a) (bits s)) ≡ bitsOf n (field s k (a + n + t) / 2 ^ t)
+pub bits-of-field : (s : List ℕ) (k a n t : ℕ) → k + (a + n + t) ≤ 8 * length s → take n (drop (k + a) (bits s)) ≡ bitsOf n (fieldAt s k (a + n + t) / 2 ^ t)
 bits-of-field s k a n t h =
     let l : List Bool = take n (drop (k + a) (bits s)) in
     let ln : length l ≡ n = length-take-le n (drop (k + a) (bits s)) (rw length-drop (omega (arith, length-bits s))) in
-    let up : field s k (a + n + t) / 2 ^ t ≡ field s k a * 2 ^ n + field s (k + a) n =
-    ap (_/ 2 ^ t) (field-add s k (a + n) t (omega arith)) ∙ high (field s k (a + n)) t (value-take-lt t (drop (k + (a + n)) (bits s))) ∙ field-add s k a n (omega arith) in
-    let cut : field s k (a + n + t) / 2 ^ t % 2 ^ n ≡ value l = ap (_% 2 ^ n) up ∙ low (field s k a) n (value-take-lt n (drop (k + a) (bits s))) in
-    value-inj l (bitsOf n (field s k (a + n + t) / 2 ^ t)) (ln ∙ sym (length-bitsOf n (field s k (a + n + t) / 2 ^ t)))
-    (sym (value-bitsOf n (field s k (a + n + t) / 2 ^ t) ∙ cut))
+    let up : fieldAt s k (a + n + t) / 2 ^ t ≡ fieldAt s k a * 2 ^ n + fieldAt s (k + a) n =
+    ap (_/ 2 ^ t) (field-add s k (a + n) t (omega arith)) ∙ high (fieldAt s k (a + n)) t (value-take-lt t (drop (k + (a + n)) (bits s))) ∙ field-add s k a n (omega arith) in
+    let cut : fieldAt s k (a + n + t) / 2 ^ t % 2 ^ n ≡ value l = ap (_% 2 ^ n) up ∙ low (fieldAt s k a) n (value-take-lt n (drop (k + a) (bits s))) in
+    value-inj l (bitsOf n (fieldAt s k (a + n + t) / 2 ^ t)) (ln ∙ sym (length-bitsOf n (fieldAt s k (a + n + t) / 2 ^ t)))
+    (sym (value-bitsOf n (fieldAt s k (a + n + t) / 2 ^ t) ∙ cut))
 
 -- a byte after a field, moved on by m bits
-pub field-byte : (s : List ℕ) (q j m b v acc : ℕ) → q + j < length s → b ≡ getD s (q + j) 0 → b < 256 → acc ≡ field s (8 * q) (8 * j) * 2 ^ (8 + m) → v ≡ b * 2 ^ m
-    → bitOr acc v ≡ field s (8 * q) (8 * j + 8) * 2 ^ m
+pub field-byte : (s : List ℕ) (q j m b v acc : ℕ) → q + j < length s → b ≡ getD s (q + j) 0 → b < 256 → acc ≡ fieldAt s (8 * q) (8 * j) * 2 ^ (8 + m) → v ≡ b * 2 ^ m
+    → bitOr acc v ≡ fieldAt s (8 * q) (8 * j + 8) * 2 ^ m
 field-byte s q j m b v acc h hb lb ha hv =
-    let a : ℕ = field s (8 * q) (8 * j) in
-    let one : field s (8 * q + 8 * j) 8 ≡ b =
-    ap (λ k. field s k 8) (let e : 8 * q + 8 * j ≡ 8 * (q + j) + 0 = omega arith in e)
+    let a : ℕ = fieldAt s (8 * q) (8 * j) in
+    let one : fieldAt s (8 * q + 8 * j) 8 ≡ b =
+    ap (λ k. fieldAt s k 8) (let e : 8 * q + 8 * j ≡ 8 * (q + j) + 0 = omega arith in e)
     ∙ field-part s (q + j) 0 8 h (omega arith)
     ∙ ap (λ x. x / 1 % 256) (sym hb)
     ∙ ap (_% 256) (div-one b)

@@ -14,7 +14,7 @@ use lib.Seq.{drop-cons, drop-length}
 use lib.Pow.{pow-pos, ones-lt}
 use Rattle.bits.specs.Bits.{bits, bytes, Bytes}
 use Rattle.bits.specs.Layout.{pack, unpack, sum, Fit}
-use Rattle.bits.specs.Segment.{Segment, field, ones, zeros, segment, segments, width, widths, freeWidths, holds, fixedHold, free, withFixed, packSegments, unpackSegments, fixedBitsHold}
+use Rattle.bits.specs.Segment.{Segment, field, fixedOnes, fixedZeros, segment, segments, width, widths, freeWidths, holds, fixedHold, free, withFixed, packSegments, unpackSegments, fixedBitsHold}
 use Rattle.bits.proofs.Bits.{length-bits, bits-bytes, bytes-bits}
 use Rattle.bits.proofs.Layouts.{length-pack, unpack-pack, pack-unpack, fit-unpack, length-fit, length-unpack, unpack-append, pack-append}
 
@@ -30,16 +30,16 @@ unfolding withFixed
 length-withFixed [] vs = refl
 length-withFixed (field w ∷ l) [] = ap suc (length-withFixed l [])
 length-withFixed (field w ∷ l) (v ∷ vs) = ap suc (length-withFixed l vs)
-length-withFixed (ones w ∷ l) vs = ap suc (length-withFixed l vs)
-length-withFixed (zeros w ∷ l) vs = ap suc (length-withFixed l vs)
+length-withFixed (fixedOnes w ∷ l) vs = ap suc (length-withFixed l vs)
+length-withFixed (fixedZeros w ∷ l) vs = ap suc (length-withFixed l vs)
 
 pub length-free : (l : List Segment) (vs : List ℕ) → length vs ≡ length l → length (free l vs) ≡ length (freeWidths l)
 unfolding free freeWidths
 length-free [] vs e = refl
 length-free (g ∷ l) [] e = absurd (omega arith)
 length-free (field w ∷ l) (v ∷ vs) e = ap suc (length-free l vs (suc-inj e))
-length-free (ones w ∷ l) (v ∷ vs) e = length-free l vs (suc-inj e)
-length-free (zeros w ∷ l) (v ∷ vs) e = length-free l vs (suc-inj e)
+length-free (fixedOnes w ∷ l) (v ∷ vs) e = length-free l vs (suc-inj e)
+length-free (fixedZeros w ∷ l) (v ∷ vs) e = length-free l vs (suc-inj e)
 
 pub free-withFixed : (l : List Segment) (vs : List ℕ) → length vs ≡ length (freeWidths l) → free l (withFixed l vs) ≡ vs
 unfolding free withFixed freeWidths
@@ -47,8 +47,8 @@ free-withFixed [] [] e = refl
 free-withFixed [] (v ∷ vs) e = absurd (omega arith)
 free-withFixed (field w ∷ l) [] e = absurd (omega arith)
 free-withFixed (field w ∷ l) (v ∷ vs) e = ap (λ (x : List ℕ). v ∷ x) (free-withFixed l vs (suc-inj e))
-free-withFixed (ones w ∷ l) vs e = free-withFixed l vs e
-free-withFixed (zeros w ∷ l) vs e = free-withFixed l vs e
+free-withFixed (fixedOnes w ∷ l) vs e = free-withFixed l vs e
+free-withFixed (fixedZeros w ∷ l) vs e = free-withFixed l vs e
 
 pub withFixed-free : (l : List Segment) (vs : List ℕ) → fixedHold l vs ≡ true → withFixed l (free l vs) ≡ vs
 unfolding free withFixed fixedHold
@@ -56,10 +56,10 @@ withFixed-free [] [] e = refl
 withFixed-free [] (v ∷ vs) e = absurd (false≢true e)
 withFixed-free (g ∷ l) [] e = absurd (false≢true e)
 withFixed-free (field w ∷ l) (v ∷ vs) e = ap (λ (x : List ℕ). v ∷ x) (withFixed-free l vs e)
-withFixed-free (ones w ∷ l) (v ∷ vs) e =
+withFixed-free (fixedOnes w ∷ l) (v ∷ vs) e =
     let h = and-eq-true-iff (eqb v (2 ^ w - 1)) (fixedHold l vs) .0 e in
     ap₂ (λ (y : ℕ) (x : List ℕ). y ∷ x) (sym (eqb-true v (2 ^ w - 1) (h .0))) (withFixed-free l vs (h .1))
-withFixed-free (zeros w ∷ l) (v ∷ vs) e =
+withFixed-free (fixedZeros w ∷ l) (v ∷ vs) e =
     let h = and-eq-true-iff (eqb v 0) (fixedHold l vs) .0 e in
     ap₂ (λ (y : ℕ) (x : List ℕ). y ∷ x) (sym (eqb-true v 0 (h .0))) (withFixed-free l vs (h .1))
 
@@ -68,9 +68,9 @@ unfolding withFixed fixedHold
 fixedHold-withFixed [] vs = refl
 fixedHold-withFixed (field w ∷ l) [] = fixedHold-withFixed l []
 fixedHold-withFixed (field w ∷ l) (v ∷ vs) = fixedHold-withFixed l vs
-fixedHold-withFixed (ones w ∷ l) vs =
+fixedHold-withFixed (fixedOnes w ∷ l) vs =
     ap (λ (t : Bool). t && fixedHold l (withFixed l vs)) (eq-eqb (2 ^ w - 1) (2 ^ w - 1) refl) ∙ fixedHold-withFixed l vs
-fixedHold-withFixed (zeros w ∷ l) vs = fixedHold-withFixed l vs
+fixedHold-withFixed (fixedZeros w ∷ l) vs = fixedHold-withFixed l vs
 
 -- values that fit the fields fit with the fixed ones among them, and back
 pub fit-withFixed : (l : List Segment) (vs : List ℕ) → Fit (freeWidths l) vs → Fit (widths l) (withFixed l vs)
@@ -78,16 +78,16 @@ unfolding withFixed widths freeWidths
 fit-withFixed [] vs f = tt
 fit-withFixed (field w ∷ l) [] f = absurd f
 fit-withFixed (field w ∷ l) (v ∷ vs) f = (f .0, fit-withFixed l vs (f .1))
-fit-withFixed (ones w ∷ l) vs f = (ones-lt w, fit-withFixed l vs f)
-fit-withFixed (zeros w ∷ l) vs f = (pow-pos w, fit-withFixed l vs f)
+fit-withFixed (fixedOnes w ∷ l) vs f = (ones-lt w, fit-withFixed l vs f)
+fit-withFixed (fixedZeros w ∷ l) vs f = (pow-pos w, fit-withFixed l vs f)
 
 pub fit-free : (l : List Segment) (vs : List ℕ) → Fit (widths l) vs → Fit (freeWidths l) (free l vs)
 unfolding free widths freeWidths
 fit-free [] vs f = tt
 fit-free (g ∷ l) [] f = absurd f
 fit-free (field w ∷ l) (v ∷ vs) f = (f .0, fit-free l vs (f .1))
-fit-free (ones w ∷ l) (v ∷ vs) f = fit-free l vs (f .1)
-fit-free (zeros w ∷ l) (v ∷ vs) f = fit-free l vs (f .1)
+fit-free (fixedOnes w ∷ l) (v ∷ vs) f = fit-free l vs (f .1)
+fit-free (fixedZeros w ∷ l) (v ∷ vs) f = fit-free l vs (f .1)
 
 -- ---- a whole layout
 
@@ -133,8 +133,8 @@ pub freeWidths-append : (l m : List Segment) → freeWidths (l ++ m) ≡ freeWid
 unfolding freeWidths
 freeWidths-append [] m = refl
 freeWidths-append (field w ∷ l) m = ap (λ (x : List ℕ). w ∷ x) (freeWidths-append l m)
-freeWidths-append (ones w ∷ l) m = freeWidths-append l m
-freeWidths-append (zeros w ∷ l) m = freeWidths-append l m
+freeWidths-append (fixedOnes w ∷ l) m = freeWidths-append l m
+freeWidths-append (fixedZeros w ∷ l) m = freeWidths-append l m
 
 pub free-append : (l m : List Segment) (vs us : List ℕ) → length vs ≡ length l → free (l ++ m) (vs ++ us) ≡ free l vs ++ free m us
 unfolding free
@@ -142,8 +142,8 @@ free-append [] m [] us e = refl
 free-append [] m (v ∷ vs) us e = absurd (omega arith)
 free-append (g ∷ l) m [] us e = absurd (omega arith)
 free-append (field w ∷ l) m (v ∷ vs) us e = ap (λ (x : List ℕ). v ∷ x) (free-append l m vs us (suc-inj e))
-free-append (ones w ∷ l) m (v ∷ vs) us e = free-append l m vs us (suc-inj e)
-free-append (zeros w ∷ l) m (v ∷ vs) us e = free-append l m vs us (suc-inj e)
+free-append (fixedOnes w ∷ l) m (v ∷ vs) us e = free-append l m vs us (suc-inj e)
+free-append (fixedZeros w ∷ l) m (v ∷ vs) us e = free-append l m vs us (suc-inj e)
 
 pub withFixed-append : (l m : List Segment) (vs us : List ℕ) → length vs ≡ length (freeWidths l) → withFixed (l ++ m) (vs ++ us) ≡ withFixed l vs ++ withFixed m us
 unfolding withFixed freeWidths
@@ -151,8 +151,8 @@ withFixed-append [] m [] us e = refl
 withFixed-append [] m (v ∷ vs) us e = absurd (omega arith)
 withFixed-append (field w ∷ l) m [] us e = absurd (omega arith)
 withFixed-append (field w ∷ l) m (v ∷ vs) us e = ap (λ (x : List ℕ). v ∷ x) (withFixed-append l m vs us (suc-inj e))
-withFixed-append (ones w ∷ l) m vs us e = ap (λ (x : List ℕ). (2 ^ w - 1) ∷ x) (withFixed-append l m vs us e)
-withFixed-append (zeros w ∷ l) m vs us e = ap (λ (x : List ℕ). 0 ∷ x) (withFixed-append l m vs us e)
+withFixed-append (fixedOnes w ∷ l) m vs us e = ap (λ (x : List ℕ). (2 ^ w - 1) ∷ x) (withFixed-append l m vs us e)
+withFixed-append (fixedZeros w ∷ l) m vs us e = ap (λ (x : List ℕ). 0 ∷ x) (withFixed-append l m vs us e)
 
 pub fixedHold-append : (l m : List Segment) (vs us : List ℕ) → length vs ≡ length l → fixedHold (l ++ m) (vs ++ us) ≡ (fixedHold l vs && fixedHold m us)
 unfolding fixedHold
@@ -195,7 +195,7 @@ fixedHold-length (g ∷ l) (v ∷ vs) h =
 width-segment : (k w : ℕ) → width (segment k w) ≡ w
 width-segment k w = go (eqb k 0) (eqb k 1)
   where
-    go : (s t : Bool) → width (cond s (field w) (cond t (ones w) (zeros w))) ≡ w
+    go : (s t : Bool) → width (cond s (field w) (cond t (fixedOnes w) (fixedZeros w))) ≡ w
     go true t = refl
     go false true = refl
     go false false = refl

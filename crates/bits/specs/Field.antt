@@ -9,8 +9,8 @@ use lib.Seq.{paste}
 use Rattle.bits.specs.Bits.{value, bitsOf, bits, bytes}
 
 -- the field as a number
-abbrev pub field : List ℕ → ℕ → ℕ → ℕ
-field s k w = value (take w (drop k (bits s)))
+abbrev pub fieldAt : List ℕ → ℕ → ℕ → ℕ
+fieldAt s k w = value (take w (drop k (bits s)))
 
 -- the bits of s with the w low bits of v in the field's place
 abbrev pub putBits : List ℕ → ℕ → ℕ → ℕ → List Bool
@@ -22,7 +22,7 @@ within n k w = leb w 64 && leb (k + w) (8 * n)
 
 -- what `get` answers: 0 where the field does not lie in the bytes
 abbrev pub getOf : List ℕ → ℕ → ℕ → ℕ
-getOf s k w = cond (within (length s) k w) (field s k w) 0
+getOf s k w = cond (within (length s) k w) (fieldAt s k w) 0
 
 -- what `put` leaves: the same bytes where the field does not lie in them
 abbrev pub putOf : List ℕ → ℕ → ℕ → ℕ → List ℕ

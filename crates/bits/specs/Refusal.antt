@@ -3,7 +3,7 @@
 -- Assumes nothing.
 use mathlib.Core.Path.{_≡_}
 use mathlib.Core.Bool.{Bool, true, false, cond, _&&_}
-use mathlib.Core.List.{List, [], _∷_, _++_}
+use mathlib.Core.List.{List, [], _∷_, _++_, map}
 use Prim.Native.Nat.{ℕ}
 use lib.Dec.{eqb, ltb}
 
@@ -11,6 +11,10 @@ use lib.Dec.{eqb, ltb}
 unfoldable pub firstRefusal : List (ℕ × Bool) → ℕ
 firstRefusal [] = 0
 firstRefusal ((n, given) ∷ ts) = cond given n (firstRefusal ts)
+
+-- the numbers of a table, in their order
+abbrev pub testNumbers : List (ℕ × Bool) → List ℕ
+testNumbers = map (λ t. t .0)
 
 -- the first table's answer if it refuses, otherwise the second's
 abbrev pub orElse : ℕ → ℕ → ℕ

@@ -8,11 +8,11 @@ use Rattle.bits.specs.Layout.{pack, unpack}
 
 -- a field of w bits, w bits fixed at 1, w bits fixed at 0
 pub data Segment : Type 0 where
-  field ones zeros : ℕ → Segment
+  field fixedOnes fixedZeros : ℕ → Segment
 
 -- as a table has it: kind 0 is a field, 1 fixed at 1, any other fixed at 0
 abbrev pub segment : ℕ → ℕ → Segment
-segment k w = cond (eqb k 0) (field w) (cond (eqb k 1) (ones w) (zeros w))
+segment k w = cond (eqb k 0) (field w) (cond (eqb k 1) (fixedOnes w) (fixedZeros w))
 
 -- a table of kinds beside a table of widths
 unfoldable pub segments : List ℕ → List ℕ → List Segment
@@ -22,8 +22,8 @@ segments (k ∷ ks) (w ∷ ws) = segment k w ∷ segments ks ws
 
 abbrev pub width : Segment → ℕ
 width (field w) = w
-width (ones w) = w
-width (zeros w) = w
+width (fixedOnes w) = w
+width (fixedZeros w) = w
 
 -- the widths of all segments
 unfoldable pub widths : List Segment → List ℕ
@@ -34,14 +34,14 @@ widths (g ∷ l) = width g ∷ widths l
 unfoldable pub freeWidths : List Segment → List ℕ
 freeWidths [] = []
 freeWidths (field w ∷ l) = w ∷ freeWidths l
-freeWidths (ones w ∷ l) = freeWidths l
-freeWidths (zeros w ∷ l) = freeWidths l
+freeWidths (fixedOnes w ∷ l) = freeWidths l
+freeWidths (fixedZeros w ∷ l) = freeWidths l
 
 -- a segment holds v, if that is fixed
 abbrev pub holds : Segment → ℕ → Bool
 holds (field w) v = true
-holds (ones w) v = eqb v (2 ^ w - 1)
-holds (zeros w) v = eqb v 0
+holds (fixedOnes w) v = eqb v (2 ^ w - 1)
+holds (fixedZeros w) v = eqb v 0
 
 -- there is a value for each segment, and each fixed one holds its own
 unfoldable pub fixedHold : List Segment → List ℕ → Bool
@@ -55,16 +55,16 @@ unfoldable pub free : List Segment → List ℕ → List ℕ
 free [] vs = []
 free (g ∷ l) [] = []
 free (field w ∷ l) (v ∷ vs) = v ∷ free l vs
-free (ones w ∷ l) (v ∷ vs) = free l vs
-free (zeros w ∷ l) (v ∷ vs) = free l vs
+free (fixedOnes w ∷ l) (v ∷ vs) = free l vs
+free (fixedZeros w ∷ l) (v ∷ vs) = free l vs
 
 -- the values of all segments, out of the fields' values; a value that is missing is 0
 unfoldable pub withFixed : List Segment → List ℕ → List ℕ
 withFixed [] vs = []
 withFixed (field w ∷ l) [] = 0 ∷ withFixed l []
 withFixed (field w ∷ l) (v ∷ vs) = v ∷ withFixed l vs
-withFixed (ones w ∷ l) vs = (2 ^ w - 1) ∷ withFixed l vs
-withFixed (zeros w ∷ l) vs = 0 ∷ withFixed l vs
+withFixed (fixedOnes w ∷ l) vs = (2 ^ w - 1) ∷ withFixed l vs
+withFixed (fixedZeros w ∷ l) vs = 0 ∷ withFixed l vs
 
 -- the bits of a row of segments whose fields hold the given values
 abbrev pub packSegments : List Segment → List ℕ → List Bool

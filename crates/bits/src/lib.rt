@@ -6,7 +6,7 @@ ghost use mathlib.Core.List.{_++_};
 ghost use lib.Dec.{eqb, ltb};
 ghost use lib.ListN.{length, getD, drop};
 ghost use Rattle.bits.specs.Bits.{digit, bits};
-ghost use Rattle.bits.specs.Field.{field, putBits, within, getOf, putOf};
+ghost use Rattle.bits.specs.Field.{fieldAt, putBits, within, getOf, putOf};
 ghost use Rattle.bits.specs.Layout.{pack, unpack, sum, Layout, fitb};
 ghost use Rattle.bits.specs.Segment.{segment, segments, holds, fixedHold};
 
@@ -48,7 +48,7 @@ pub fn smaller(a: usize, b: usize) -> usize
 // It requires that they are there, so that a loop over the parts of a field pays for no test.
 pub fn read_part(s: &[u8], q: usize, r: usize, n: usize) -> u64
     requires { ⌜ (q < length (now s)) × (r + n ≤ 8) ⌝ }
-    ensures { λ v. ⌜ v ≡ field (now (s .entry)) (8 * q + r) n ⌝ }
+    ensures { λ v. ⌜ v ≡ fieldAt (now (s .entry)) (8 * q + r) n ⌝ }
 {
     low_bits(s[q] as u64 >> (8 - r - n), n)
 }
@@ -68,7 +68,7 @@ fn write_part(s: &mut [u8], q: usize, r: usize, n: usize, v: u64)
 // and an offset in it, since eight times a length may not fit.
 fn read_field(s: &[u8], at: usize, width: usize) -> u64
     requires { ⌜ (width ≤ 64) × (at + width ≤ 8 * length (now s)) ⌝ }
-    ensures { λ r. ⌜ r ≡ field (now (s .entry)) at width ⌝ }
+    ensures { λ r. ⌜ r ≡ fieldAt (now (s .entry)) at width ⌝ }
 {
     let first = at / 8;
     let off = at % 8;

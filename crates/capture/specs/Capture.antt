@@ -36,11 +36,11 @@ abbrev pub frameAt : (main spare : List ℕ) → ℕ → List ℕ
 frameAt main spare n = bytesFrom (sourceOf main spare n) main spare n
 
 -- where frame n stands, when its capture stands at this place, a block and a byte in it: at byte 26n of the capture
-abbrev pub placeAt : ℕ × ℕ → ℕ → ℕ × ℕ
-placeAt capture n = (capture .0, 26 * n + capture .1)
+abbrev pub positionAt : ℕ × ℕ → ℕ → ℕ × ℕ
+positionAt capture n = (capture .0, 26 * n + capture .1)
 
 -- where those bytes stand, when the captures stand at these places. An empty part is cut from the main one's start.
-abbrev pub placeFrom : Tuner → (main spare : ℕ × ℕ) → ℕ → ℕ × ℕ
-placeFrom Main main spare n = placeAt main n
-placeFrom Spare main spare n = placeAt spare n
-placeFrom Neither main spare n = main
+abbrev pub positionFrom : Tuner → (main spare : ℕ × ℕ) → ℕ → ℕ × ℕ
+positionFrom Main main spare n = positionAt main n
+positionFrom Spare main spare n = positionAt spare n
+positionFrom Neither main spare n = main

@@ -2,7 +2,7 @@
 ghost use mathlib.Core.Path.{_≡_};
 ghost use Prim.Native.Nat.{_+_, _*_, _≤_};
 ghost use lib.ListN.{length};
-ghost use Rattle.capture.specs.Capture.{partAt, placeAt, numberAt, numbersOf, sourceOf, bytesFrom, placeFrom};
+ghost use Rattle.capture.specs.Capture.{partAt, positionAt, numberAt, numbersOf, sourceOf, bytesFrom, positionFrom};
 
 // The tuner that a frame is taken from.
 pub enum Tuner {
@@ -21,7 +21,7 @@ pub struct TunerNumbers {
 fn part(capture: &[u8], n: usize) -> &[u8]
     requires { ⌜ 26 * n + 26 ≤ length (now capture) ⌝ }
     ensures bytes { λ r. ⌜ now r ≡ partAt (now (capture .entry)) n ⌝ }
-    ensures place { λ r. ⌜ r .ptr ≡ placeAt (capture .entry .ptr) n ⌝ }
+    ensures place { λ r. ⌜ r .ptr ≡ positionAt (capture .entry .ptr) n ⌝ }
 {
     let start = 26 * n;
     let end = start + 26;
@@ -64,7 +64,7 @@ pub fn source(main: &[u8], spare: &[u8], n: usize) -> Tuner
 // The frame's own bytes, where they stand in the capture that it is taken from; an empty part where neither has it.
 pub fn frame_at<'a>(main: &'a [u8], spare: &'a [u8], n: usize) -> &'a [u8]
     ensures bytes { λ r. ⌜ now r ≡ bytesFrom (sourceOf (now (main .entry)) (now (spare .entry)) n) (now (main .entry)) (now (spare .entry)) n ⌝ }
-    ensures place { λ r. ⌜ r .ptr ≡ placeFrom (sourceOf (now (main .entry)) (now (spare .entry)) n) (main .entry .ptr) (spare .entry .ptr) n ⌝ }
+    ensures place { λ r. ⌜ r .ptr ≡ positionFrom (sourceOf (now (main .entry)) (now (spare .entry)) n) (main .entry .ptr) (spare .entry .ptr) n ⌝ }
 {
     match source(main, spare, n) {
         Tuner::Main => {

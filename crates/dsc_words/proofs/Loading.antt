@@ -11,7 +11,7 @@ use lib.Pow as pow
 use lib.Pow.{shl-exact, shl-shr, shr-shr}
 use lib.Seq.{sets, sets-eq, take-add, drop-drop}
 use Rattle.bits.specs.Bits.{digit, value, bitsOf, bits, bytes, Bytes}
-use Rattle.bits.specs.Field.{field}
+use Rattle.bits.specs.Field.{fieldAt}
 use Rattle.bits.proofs.Bits.{length-bitsOf, length-bytes, value-bitsOf, value-take-lt, bitsOf-add, take-drop-bitsOf, bytes-append}
 use Rattle.bits.proofs.Field.{bits-of-field, field-byte}
 use Rattle.bits.proofs.Slices.{sets-append}
@@ -25,8 +25,8 @@ use Rattle.dsc_words.specs.Words.{wordOf}
 
 module _ (s : List ℕ) (q : ℕ) (room : q + 8 ≤ length s) (fit : Bytes s) where
   -- one byte more, moved on by m bits
-  next-byte : (j m b acc : ℕ) → j < 8 → 8 + m ≤ 64 → b ≡ getD s (q + j) 0 → acc ≡ field s (8 * q) (8 * j) * 2 ^ (8 + m)
-      → bitOr acc (b * 2 ^ m % 2 ^ 64) ≡ field s (8 * q) (8 * j + 8) * 2 ^ m
+  next-byte : (j m b acc : ℕ) → j < 8 → 8 + m ≤ 64 → b ≡ getD s (q + j) 0 → acc ≡ fieldAt s (8 * q) (8 * j) * 2 ^ (8 + m)
+      → bitOr acc (b * 2 ^ m % 2 ^ 64) ≡ fieldAt s (8 * q) (8 * j + 8) * 2 ^ m
   next-byte j m b acc h hm eb ea =
       let lb : b < 256 = omega (arith, fit (q + j)) in
       field-byte s q j m b (b * 2 ^ m % 2 ^ 64) acc (omega arith) eb lb ea (shl-exact 8 m 64 lb hm)
@@ -35,7 +35,7 @@ module _ (s : List ℕ) (q : ℕ) (room : q + 8 ≤ length s) (fit : Bytes s) wh
   pub eight-bytes : (b₀ b₁ b₂ b₃ b₄ b₅ b₆ b₇ : ℕ) → b₀ ≡ getD s q 0 → b₁ ≡ getD s (q + 1) 0 → b₂ ≡ getD s (q + 2) 0 → b₃ ≡ getD s (q + 3) 0
       → b₄ ≡ getD s (q + 4) 0 → b₅ ≡ getD s (q + 5) 0 → b₆ ≡ getD s (q + 6) 0 → b₇ ≡ getD s (q + 7) 0
       → bitOr (bitOr (bitOr (bitOr (bitOr (bitOr (bitOr (b₀ * 2 ^ 56 % 2 ^ 64) (b₁ * 2 ^ 48 % 2 ^ 64)) (b₂ * 2 ^ 40 % 2 ^ 64)) (b₃ * 2 ^ 32 % 2 ^ 64)) (b₄ * 2 ^ 24 % 2 ^ 64)) (b₅ * 2 ^ 16 % 2 ^ 64)) (b₆ * 2 ^ 8 % 2 ^ 64)) b₇
-      ≡ field s (8 * q) 64
+      ≡ fieldAt s (8 * q) 64
   unfolding value
   eight-bytes b₀ b₁ b₂ b₃ b₄ b₅ b₆ b₇ e₀ e₁ e₂ e₃ e₄ e₅ e₆ e₇ =
       let a₁ = sym (or-zero-l (b₀ * 2 ^ 56 % 2 ^ 64)) ∙ next-byte 0 56 b₀ 0 (omega arith) (omega arith) (e₀ ∙ ap (λ n. getD s n 0) (let e : q ≡ q + 0 = omega arith in e)) refl in
@@ -51,7 +51,7 @@ module _ (s : List ℕ) (q : ℕ) (room : q + 8 ≤ length s) (fit : Bytes s) wh
 
 module _ (f : List ℕ) (h : length f ≡ 26) where
   -- the first of them without its first bit and its last four
-  first-word : (z : ℕ) → z ≡ field f 16 64 → bitsOf 59 (z * 2 ^ 1 % 2 ^ 64 / 2 ^ 5) ≡ take 59 (drop 17 (bits f))
+  first-word : (z : ℕ) → z ≡ fieldAt f 16 64 → bitsOf 59 (z * 2 ^ 1 % 2 ^ 64 / 2 ^ 5) ≡ take 59 (drop 17 (bits f))
   first-word z ez =
       ap (bitsOf 59) (pow.field (z * 2 ^ 1) 59 5)
       ∙ bitsOf-low 59 (z * 2 ^ 1 / 2 ^ 5)
@@ -59,20 +59,20 @@ module _ (f : List ℕ) (h : length f ≡ 26) where
       ∙ sym (bits-of-field f 16 1 59 4 (omega arith))
 
   -- the last four bits of one, u, and all but the last four of the next, v
-  next-word : (u v k : ℕ) → k + 128 ≤ 208 → u ≡ field f k 64 → v ≡ field f (k + 64) 64
+  next-word : (u v k : ℕ) → k + 128 ≤ 208 → u ≡ fieldAt f k 64 → v ≡ fieldAt f (k + 64) 64
       → bitsOf 64 (bitOr (v / 2 ^ 4) (u * 2 ^ 60 % 2 ^ 64)) ≡ take 64 (drop (k + 60) (bits f))
   next-word u v k l eu ev =
-      let fits : field f (k + 64) 64 < 2 ^ 64 = value-take-lt 64 (drop (k + 64) (bits f)) in
+      let fits : fieldAt f (k + 64) 64 < 2 ^ 64 = value-take-lt 64 (drop (k + 64) (bits f)) in
       let place : k + 64 + 0 ≡ k + 60 + 4 = omega arith in
       bitsOf-join 4 60 v u (omega arith)
-      ∙ ap₂ _++_ (ap (bitsOf 4) (eu ∙ sym (div-one (field f k 64))) ∙ sym (bits-of-field f k 60 4 0 (omega arith)))
+      ∙ ap₂ _++_ (ap (bitsOf 4) (eu ∙ sym (div-one (fieldAt f k 64))) ∙ sym (bits-of-field f k 60 4 0 (omega arith)))
       (ap (λ n. bitsOf 60 (n / 2 ^ 4)) ev
       ∙ sym (bits-of-field f (k + 64) 0 60 4 (omega arith))
       ∙ ap (take 60) (ap (λ n. drop n (bits f)) place ∙ sym (drop-drop 4 (k + 60) (bits f))))
       ∙ sym (take-add 4 60 (drop (k + 60) (bits f)))
 
   -- the three words that the code makes of them hold the protected part
-  pub three-words : (x y z : ℕ) → x ≡ field f 144 64 → y ≡ field f 80 64 → z ≡ field f 16 64
+  pub three-words : (x y z : ℕ) → x ≡ fieldAt f 144 64 → y ≡ fieldAt f 80 64 → z ≡ fieldAt f 16 64
       → wordOf (bitOr (x / 2 ^ 4) (y * 2 ^ 60 % 2 ^ 64)) (bitOr (y / 2 ^ 4) (z * 2 ^ 60 % 2 ^ 64)) (z * 2 ^ 1 % 2 ^ 64 / 2 ^ 5) ≡ protected f
   unfolding wordOf protected
   three-words x y z ex ey ez =

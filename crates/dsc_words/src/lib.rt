@@ -5,7 +5,7 @@ ghost use Prim.Native.Nat.{_+_, _*_, _%_, _^_, _≤_};
 ghost use lib.ListN.{length};
 ghost use lib.Seq.{sets};
 ghost use Rattle.bits.specs.Bits.{bitsOf, bytes};
-ghost use Rattle.bits.specs.Field.{field};
+ghost use Rattle.bits.specs.Field.{fieldAt};
 ghost use Rattle.gf2.specs.Polynomial.{add};
 ghost use Rattle.dsc.specs.Repair.{protected, wordBytes};
 ghost use Rattle.dsc_words.specs.Words.{held, Fits};
@@ -26,7 +26,7 @@ fn wide(x: u8) -> u64
 // Eight bytes from byte `at` on as a number, the first byte highest. In this shape the compiler makes one load of them.
 fn eight(f: &[u8], at: usize) -> u64
     requires { ⌜ (length (now f) ≡ 26) × (at + 8 ≤ 26) ⌝ }
-    ensures { λ r. ⌜ r ≡ field (now (f .entry)) (8 * at) 64 ⌝ }
+    ensures { λ r. ⌜ r ≡ fieldAt (now (f .entry)) (8 * at) 64 ⌝ }
 {
     (wide(f[at]) << 56)
         | (wide(f[at + 1]) << 48)

@@ -9,7 +9,7 @@ use lib.Dec.{eqb}
 use lib.ListN.{length, take, drop, length-append}
 use borrow.Author.Tests.{eq-eqb, eqb-true}
 use Rattle.bits.specs.Bits.{value, bitsOf, bits}
-use Rattle.bits.specs.Field.{field}
+use Rattle.bits.specs.Field.{fieldAt}
 use Rattle.bits.specs.Layout.{pack, unpack, sum, Fit}
 use Rattle.bits.specs.Segment.{widths, fixedHold}
 use Rattle.bits.specs.Refusal.{firstRefusal, NoneGiven}
@@ -141,12 +141,12 @@ module _ (r : Record) where
 
 pub record Found (r : Record) (c : List ℕ) : Type 0 where
   pub identification : identificationIn c ≡ r .identification
-  pub start : field c 17 2 ≡ startEndOf (classOf (r .identification))
-  pub update : field c 19 2 ≡ updateOf (classOf (r .identification)) (r .update)
+  pub start : fieldAt c 17 2 ≡ startEndOf (classOf (r .identification))
+  pub update : fieldAt c 19 2 ≡ updateOf (classOf (r .identification)) (r .update)
   pub body : bodyIn c ≡ recordBody r
   pub values : valuesIn c ≡ bodyValues (recordBody r) r
   pub covered : take 91 (drop 21 (bits c)) ≡ announced r
-  pub check : field c 112 10 ≡ crc10Of (announced r)
+  pub check : fieldAt c 112 10 ≡ crc10Of (announced r)
 
 pub word-found : (r : Record) → Fit (fieldWidths (recordBody r)) (fields r) → Found r (wordBytes (wordOf r))
 unfolding announced
@@ -158,10 +158,10 @@ word-found r f =
     let p = wordParts r in
     let ch = chosen (classOf i) (r .page) (r .kind) in
     let identification : identificationIn c ≡ i = ap value (p .identification) ∙ value-bitsOf-fit 3 i (heads b r f .identification) in
-    let bit : (k : ℕ) → k + 1 ≤ 88 → field c (24 + k) 1 ≡ value (take 1 (drop k (pack ws (bodyValues b r)))) =
+    let bit : (k : ℕ) → k + 1 ≤ 88 → fieldAt c (24 + k) 1 ≡ value (take 1 (drop k (pack ws (bodyValues b r)))) =
     λ k h. ap value (sym (inner-part 1 k 88 24 (bits c) h) ∙ ap (λ (d : List Bool). take 1 (drop k d)) (p .details)) in
     let body : bodyIn c ≡ b =
-    ap (λ (n : ℕ). bodyOf (classOf n) (field c 55 1) (field c 67 1)) identification
+    ap (λ (n : ℕ). bodyOf (classOf n) (fieldAt c 55 1) (fieldAt c 67 1)) identification
     ∙ ap₂ (λ (m n : ℕ). bodyOf (classOf i) m n) (bit 31 (omega arith)) (bit 43 (omega arith))
     ∙ body-again b r ch f in
     record {
@@ -183,7 +183,7 @@ module _ (r : Record) (f : Fit (fieldWidths (recordBody r)) (fields r)) where
       let x = r .reference in
       let p = r .pattern in
       let h = word-found r f in
-      ap₂ (λ (y : Body) (vs : List ℕ). recordOf y x p (identificationIn c) (field c 19 2) vs) (h .body) (h .values)
+      ap₂ (λ (y : Body) (vs : List ℕ). recordOf y x p (identificationIn c) (fieldAt c 19 2) vs) (h .body) (h .values)
       ∙ ap₂ (λ (i u : ℕ). recordOf b x p i u (bodyValues b r)) (h .identification) (h .update)
       ∙ body-record b r (chosen (classOf (r .identification)) (r .page) (r .kind)) f
 
@@ -194,13 +194,13 @@ module _ (r : Record) (f : Fit (fieldWidths (recordBody r)) (fields r)) where
       let b = recordBody r in
       let i = r .identification in
       let h = word-found r f in
-      let t = taken (bodyIn c) (r .reference) (r .pattern) (identificationIn c) (field c 19 2) (valuesIn c) in
+      let t = taken (bodyIn c) (r .reference) (r .pattern) (identificationIn c) (fieldAt c 19 2) (valuesIn c) in
       let latitude : recordIn 0 0 c .latitude ≡ r .latitude = sym (t .latitude) ∙ ap (λ (y : Record). y .latitude) found-record in
       let longitude : recordIn 0 0 c .longitude ≡ r .longitude = sym (t .longitude) ∙ ap (λ (y : Record). y .longitude) found-record in
-      refusal-later 5 _ (ap not (eq-eqb (field c 112 10) (crc10Of (take 91 (drop 21 (bits c)))) (h .check ∙ sym (ap crc10Of (h .covered)))))
+      refusal-later 5 _ (ap not (eq-eqb (fieldAt c 112 10) (crc10Of (take 91 (drop 21 (bits c)))) (h .check ∙ sym (ap crc10Of (h .covered)))))
       ∙ refusal-later 6 _ (ap (λ (n : ℕ). isUndefined (classOf n)) (h .identification) ∙ known)
       ∙ refusal-later 7 _
-      (ap (λ (n : ℕ). flagsWrong (classOf n) (field c 17 2) (field c 19 2)) (h .identification)
+      (ap (λ (n : ℕ). flagsWrong (classOf n) (fieldAt c 17 2) (fieldAt c 19 2)) (h .identification)
       ∙ ap₂ (λ (m n : ℕ). flagsWrong (classOf i) m n) (h .start) (h .update)
       ∙ flags-right (classOf i) (r .update))
       ∙ refusal-later 8 _ (ap not (ap₂ (λ (y : Body) (vs : List ℕ). fixedHold (layout y) vs) (h .body) (h .values) ∙ body-fixed b r))
@@ -241,9 +241,9 @@ patternWord-lt p = go (eqb p 0)
     go false = omega arith
 
 pub record Outside (r : Record) (f : List ℕ) : Type 0 where
-  pub reference : field f 0 1 ≡ r .reference
-  pub pattern : patternOf (field f 1 16) ≡ r .pattern
-  pub filler : field f 204 4 ≡ 0
+  pub reference : fieldAt f 0 1 ≡ r .reference
+  pub pattern : patternOf (fieldAt f 1 16) ≡ r .pattern
+  pub filler : fieldAt f 204 4 ≡ 0
 
 -- a frame whose bits outside B17 to B203 are those of a record's frame
 pub outside : (r : Record) → Fit (fieldWidths (recordBody r)) (fields r) → (f : List ℕ) → length f ≡ 26
@@ -253,7 +253,7 @@ outside r fit f h before after =
     let p = parts-frame r in
     let front : (k n : ℕ) → k + n ≤ 17 → take n (drop k (bits f)) ≡ take n (drop k (bits (frameOf r))) =
     λ k n j. sym (take-drop-take n k 17 (bits f) j) ∙ ap (λ (b : List Bool). take n (drop k b)) before ∙ take-drop-take n k 17 (bits (frameOf r)) j in
-    let sync : field f 1 16 ≡ patternWord (r .pattern) =
+    let sync : fieldAt f 1 16 ≡ patternWord (r .pattern) =
     ap value (front 1 16 (omega arith) ∙ p .pattern) ∙ value-bitsOf-fit 16 (patternWord (r .pattern)) (patternWord-lt (r .pattern)) in
     record {
       reference = ap value (front 0 1 (omega arith) ∙ p .reference) ∙ value-bitsOf-fit 1 (r .reference) (q .reference);

@@ -10,7 +10,7 @@ use lib.ListN.{length, take, drop, length-drop}
 use lib.Seq.{take-all}
 use borrow.Author.Tests.{eq-eqb, ne-eqb, eqb-true, eqb-false}
 use Rattle.bits.specs.Bits.{odd, bitsOf, bits, bytes, Bytes}
-use Rattle.bits.specs.Field.{field}
+use Rattle.bits.specs.Field.{fieldAt}
 use Rattle.bits.proofs.Bits.{value-take-lt, bits-inj, bytes-Bytes}
 use Rattle.gf2.specs.Polynomial.{zeros, add}
 use Rattle.dsc.specs.Code.{CodeWord, weight, dist, parityOf}
@@ -80,7 +80,7 @@ written-apart r s lr ls e = let same = sym (comes-back r lr) ∙ ap readOf e ∙
 -- what is known of an accepted frame
 record Known (f : List ℕ) (r : Record) (n : ℕ) : Type 0 where
   judged : Judged f
-  is : recordIn (field f 0 1) (patternOf (field f 1 16)) (wordBytes (judged .word)) ≡ r
+  is : recordIn (fieldAt f 0 1) (patternOf (fieldAt f 1 16)) (wordBytes (judged .word)) ≡ r
   count : judged .places ≡ n
 
 pub refused-read : (f : List ℕ) → frameRefusal f ≢ 0 → readOf f ≡ Refused (frameRefusal f)
@@ -103,23 +103,23 @@ known f r d e = go (eqb (frameRefusal f) 0) refl
 module _ (f : List ℕ) (j : Judged f) where
   -- the record that is read
   recorded : Record
-  recorded = recordIn (field f 0 1) (patternOf (field f 1 16)) (wordBytes (j .word))
+  recorded = recordIn (fieldAt f 0 1) (patternOf (fieldAt f 1 16)) (wordBytes (j .word))
 
   recorded-legal : Legal recorded
   unfolding recorded
   recorded-legal =
-      read-legal (j .word) (j .code-word) (j .tests) (field f 0 1) (patternOf (field f 1 16))
-      (value-take-lt 1 (drop 0 (bits f))) (word-pattern (field f 1 16) (j .pattern) .1)
+      read-legal (j .word) (j .code-word) (j .tests) (fieldAt f 0 1) (patternOf (fieldAt f 1 16))
+      (value-take-lt 1 (drop 0 (bits f))) (word-pattern (fieldAt f 1 16) (j .pattern) .1)
 
   recorded-word : wordOf recorded ≡ j .word
   unfolding recorded
-  recorded-word = read-word (j .word) (j .code-word) (j .tests) (field f 0 1) (patternOf (field f 1 16))
+  recorded-word = read-word (j .word) (j .code-word) (j .tests) (fieldAt f 0 1) (patternOf (fieldAt f 1 16))
 
-  recorded-taken : (recorded .reference ≡ field f 0 1) × (recorded .pattern ≡ patternOf (field f 1 16))
+  recorded-taken : (recorded .reference ≡ fieldAt f 0 1) × (recorded .pattern ≡ patternOf (fieldAt f 1 16))
   unfolding recorded
   recorded-taken =
       let c = wordBytes (j .word) in
-      let y = taken (bodyIn c) (field f 0 1) (patternOf (field f 1 16)) (identificationIn c) (field c 19 2) (valuesIn c) in
+      let y = taken (bodyIn c) (fieldAt f 0 1) (patternOf (fieldAt f 1 16)) (identificationIn c) (fieldAt c 19 2) (valuesIn c) in
       (y .reference, y .pattern)
 
   recorded-frame : frameOf recorded ≡ cleanOf f
@@ -131,7 +131,7 @@ module _ (f : List ℕ) (j : Judged f) where
       recorded-word
       ∙ sym (ap (λ (a : Answer). protected (a .word)) (j .repaired) ∙ protected-wordBytes (j .word) (length-word (j .word) (j .code-word))) in
       ap₂ (λ (x y : ℕ). bytes 26 (bitsOf 1 x ++ (bitsOf 16 (patternWord y) ++ (m ++ (p ++ zeros 4))))) (recorded-taken .0) (recorded-taken .1)
-      ∙ ap (λ (l : List Bool). bytes 26 (bitsOf 1 (field f 0 1) ++ (bitsOf 16 (patternWord (patternOf (field f 1 16))) ++ l)))
+      ∙ ap (λ (l : List Bool). bytes 26 (bitsOf 1 (fieldAt f 0 1) ++ (bitsOf 16 (patternWord (patternOf (fieldAt f 1 16))) ++ l)))
       (sym (append-assoc m p (zeros 4)) ∙ ap (_++ zeros 4) w)
 
   recorded-mended : Mended f (frameOf recorded) (j .places)
@@ -145,7 +145,7 @@ module _ (f : List ℕ) (j : Judged f) where
       let p = parts-frame r in
       let reference : take 1 (drop 0 g) ≡ take 1 (drop 0 b) = p .reference ∙ ap (bitsOf 1) (recorded-taken .0) ∙ part-bits 0 1 b (omega arith) in
       let pattern : take 16 (drop 1 g) ≡ take 16 (drop 1 b) =
-      p .pattern ∙ ap (bitsOf 16) (ap patternWord (recorded-taken .1) ∙ word-pattern (field f 1 16) (j .pattern) .0) ∙ part-bits 1 16 b (omega arith) in
+      p .pattern ∙ ap (bitsOf 16) (ap patternWord (recorded-taken .1) ∙ word-pattern (fieldAt f 1 16) (j .pattern) .0) ∙ part-bits 1 16 b (omega arith) in
       let filler : take 4 (drop 204 b) ≡ zeros 4 = sym (part-bits 204 4 b (omega arith)) ∙ ap (bitsOf 4) (j .filler) in
       record {
         size = length-frame r;

@@ -9,7 +9,7 @@ use lib.Dec.{eqb}
 use lib.ListN.{length, take, drop}
 use borrow.Author.Tests.{eq-eqb, ne-eqb, eqb-true, eqb-false, not-false}
 use Rattle.bits.specs.Bits.{bitsOf, bits}
-use Rattle.bits.specs.Field.{field}
+use Rattle.bits.specs.Field.{fieldAt}
 use Rattle.bits.specs.Layout.{pack, Fit}
 use Rattle.bits.specs.Segment.{widths}
 use Rattle.bits.specs.Refusal.{firstRefusal, NoneGiven}
@@ -45,8 +45,8 @@ pub record Judged (f : List ℕ) : Type 0 where
   pub word : List Bool
   pub places : ℕ
   pub size : length f ≡ 26
-  pub filler : field f 204 4 ≡ 0
-  pub pattern : patternOf (field f 1 16) ≢ 2
+  pub filler : fieldAt f 204 4 ≡ 0
+  pub pattern : patternOf (fieldAt f 1 16) ≢ 2
   pub code-word : CodeWord word
   pub repaired : repairOf f ≡ repairedTo word places
   pub tests : NoneGiven (afterRepair (wordBytes word))
@@ -62,7 +62,7 @@ accepted-judged f e =
     let number = eqb-true (numberOf (repairOf f)) 0 (not-false (eqb (numberOf (repairOf f)) 0) (h .1 .1 .1 .0)) in
     go size number (h .1 .0) (h .1 .1 .0) (h .1 .1 .1 .1) (nearest (protected f) (length-protected f size))
   where
-    go : length f ≡ 26 → numberOf (repairOf f) ≡ 0 → not (eqb (field f 204 4) 0) ≡ false → eqb (patternOf (field f 1 16)) 2 ≡ false
+    go : length f ≡ 26 → numberOf (repairOf f) ≡ 0 → not (eqb (fieldAt f 204 4) 0) ≡ false → eqb (patternOf (fieldAt f 1 16)) 2 ≡ false
         → NoneGiven (afterRepair (repairOf f .word)) → Nearest (protected f) → Judged f
     go size number filler pattern tests (one c k d) =
         let e = repair-found f size c k d in
@@ -70,8 +70,8 @@ accepted-judged f e =
           word = c;
           places = dist (protected f) c;
           size = size;
-          filler = eqb-true (field f 204 4) 0 (not-false (eqb (field f 204 4) 0) filler);
-          pattern = eqb-false (patternOf (field f 1 16)) 2 pattern;
+          filler = eqb-true (fieldAt f 204 4) 0 (not-false (eqb (fieldAt f 204 4) 0) filler);
+          pattern = eqb-false (patternOf (fieldAt f 1 16)) 2 pattern;
           code-word = k;
           repaired = e;
           tests = subst (λ (a : Answer). NoneGiven (afterRepair (a .word))) e tests;
@@ -83,13 +83,13 @@ same-answer : (c w : List Bool) (m n : ℕ) → repairedTo c m ≡ repairedTo w 
 same-answer c w m n e = let o = ap (λ (a : Answer). a .outcome) e in (cc, ap (λ (a : Answer). a .word) e)
 
 -- a frame whose word is repaired is judged by the repaired word
-pub repaired-refusal : (f : List ℕ) (w : List Bool) (n : ℕ) → length f ≡ 26 → field f 204 4 ≡ 0 → patternOf (field f 1 16) ≢ 2 → repairOf f ≡ repairedTo w n
+pub repaired-refusal : (f : List ℕ) (w : List Bool) (n : ℕ) → length f ≡ 26 → fieldAt f 204 4 ≡ 0 → patternOf (fieldAt f 1 16) ≢ 2 → repairOf f ≡ repairedTo w n
     → frameRefusal f ≡ firstRefusal (afterRepair (wordBytes w))
 unfolding frameRefusal
 repaired-refusal f w n size filler pattern e =
     refusal-later 1 _ (ap not (eq-eqb (length f) 26 size))
-    ∙ refusal-later 2 _ (ap not (eq-eqb (field f 204 4) 0 filler))
-    ∙ refusal-later 3 _ (ne-eqb (patternOf (field f 1 16)) 2 pattern)
+    ∙ refusal-later 2 _ (ap not (eq-eqb (fieldAt f 204 4) 0 filler))
+    ∙ refusal-later 3 _ (ne-eqb (patternOf (fieldAt f 1 16)) 2 pattern)
     ∙ refusal-later 4 _ (ap (λ (a : Answer). not (eqb (numberOf a) 0)) e)
     ∙ ap (λ (a : Answer). firstRefusal (afterRepair (a .word))) e
 
@@ -101,7 +101,7 @@ module _ (f : List ℕ) (j : Judged f) where
   unfolding placesIn
   judged-places = rw (judged-accepted, j .repaired)
 
-  pub judged-read : readOf f ≡ Accepted (recordIn (field f 0 1) (patternOf (field f 1 16)) (wordBytes (j .word))) (record { repaired = j .places })
+  pub judged-read : readOf f ≡ Accepted (recordIn (fieldAt f 0 1) (patternOf (fieldAt f 1 16)) (wordBytes (j .word))) (record { repaired = j .places })
   unfolding readOf
   judged-read = rw (judged-accepted, judged-places, j .repaired)
 
@@ -138,9 +138,9 @@ module _ (w : List Bool) (k : CodeWord w) (t : NoneGiven (afterRepair (wordBytes
       let r = recordIn x p c in
       let b = bodyIn c in
       let i = identificationIn c in
-      let u = field c 19 2 in
+      let u = fieldAt c 19 2 in
       ap (λ (n : ℕ). bodyOf (classOf n) (r .page) (r .kind)) (taken b x p i u (valuesIn c) .identification)
-      ∙ record-body b x p i u (valuesIn c) (chosen (classIn c) (field c 55 1) (field c 67 1))
+      ∙ record-body b x p i u (valuesIn c) (chosen (classIn c) (fieldAt c 55 1) (fieldAt c 67 1))
 
   pub read-legal : x < 2 → p < 2 → Legal (recordIn x p (wordBytes w))
   read-legal hx hp =
@@ -148,7 +148,7 @@ module _ (w : List Bool) (k : CodeWord w) (t : NoneGiven (afterRepair (wordBytes
       let r = recordIn x p c in
       let b = bodyIn c in
       let i = identificationIn c in
-      let u = field c 19 2 in
+      let u = fieldAt c 19 2 in
       let vs = valuesIn c in
       let y = taken b x p i u vs in
       let f = record-fit b x p i u vs hx hp (value-take-lt 3 (drop 21 (bits c))) (value-take-lt 2 (drop 19 (bits c))) (fit-unpack (widths (layout b)) (detailsIn c)) in
@@ -171,7 +171,7 @@ module _ (w : List Bool) (k : CodeWord w) (t : NoneGiven (afterRepair (wordBytes
       let r = recordIn x p c in
       let b = bodyIn c in
       let i = identificationIn c in
-      let u = field c 19 2 in
+      let u = fieldAt c 19 2 in
       let vs = valuesIn c in
       let ws = widths (layout b) in
       let fixed = not-false _ (t .1 .1 .1 .0) in
@@ -191,8 +191,8 @@ module _ (w : List Bool) (k : CodeWord w) (t : NoneGiven (afterRepair (wordBytes
       let b = bodyIn c in
       let cl = classIn c in
       let i = identificationIn c in
-      let s = field c 17 2 in
-      let u = field c 19 2 in
+      let s = fieldAt c 17 2 in
+      let u = fieldAt c 19 2 in
       let vs = valuesIn c in
       let cover = take 3 (drop 21 (bits c)) ++ detailsIn c in
       let class : classOf (r .identification) ≡ cl = ap classOf (taken b x p i u vs .identification) in
@@ -200,8 +200,8 @@ module _ (w : List Bool) (k : CodeWord w) (t : NoneGiven (afterRepair (wordBytes
       let start : startEndOf (classOf (r .identification)) ≡ s = ap startEndOf class ∙ sym (eqb-true s (startEndOf cl) (flags .0)) in
       let update : updateOf (classOf (r .identification)) (r .update) ≡ u =
       ap (λ (z : Class). updateOf z (r .update)) class
-      ∙ update-again b x p i u vs (chosen cl (field c 55 1) (field c 67 1)) (t .1 .0) (eqb-true u (updateOf cl u) (flags .1)) in
-      let number : field c 112 10 ≡ crc10Of (take 91 (drop 21 (bits c))) = eqb-true (field c 112 10) (crc10Of (take 91 (drop 21 (bits c)))) (not-false _ (t .0)) in
+      ∙ update-again b x p i u vs (chosen cl (fieldAt c 55 1) (fieldAt c 67 1)) (t .1 .0) (eqb-true u (updateOf cl u) (flags .1)) in
+      let number : fieldAt c 112 10 ≡ crc10Of (take 91 (drop 21 (bits c))) = eqb-true (fieldAt c 112 10) (crc10Of (take 91 (drop 21 (bits c)))) (not-false _ (t .0)) in
       let check : crc10 (announced r) ≡ take 10 (drop 112 (bits c)) =
       ap crc10 (read-announced ∙ sym (part-split 21 3 88 (bits c)))
       ∙ sym (crc10-bits (take 91 (drop 21 (bits c)))) ∙ ap (bitsOf 10) (sym number) ∙ part-bits 112 10 (bits c) (omega arith) in

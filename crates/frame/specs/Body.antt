@@ -3,7 +3,7 @@ use mathlib.Core.Bool.{cond}
 use mathlib.Core.List.{List, [], _∷_}
 use Prim.Native.Nat.{ℕ}
 use lib.Dec.{eqb}
-use Rattle.bits.specs.Segment.{Segment, field, ones, zeros}
+use Rattle.bits.specs.Segment.{Segment, field, fixedOnes, fixedZeros}
 use Rattle.frame.specs.declared.Class.{Class}
 use Rattle.frame.specs.declared.Class.the-variants.{Warning, Silent, Undefined}
 use Rattle.frame.specs.declared.Body.{Body}
@@ -19,13 +19,13 @@ bodyOf Undefined page kind = NoInformation
 -- where each field stands. Page and kind choose the body, so they are fixed in it.
 unfoldable pub layout : Body → List Segment
 -- current time, page 0, the 56 areas
-layout AreaPage = field 31 ∷ zeros 1 ∷ field 56 ∷ []
+layout AreaPage = field 31 ∷ fixedZeros 1 ∷ field 56 ∷ []
 -- current time, page 1, total, item, warning number, kind 0, south, latitude, west, longitude, depth, time of occurrence, 1
-layout PlacePage = field 31 ∷ ones 1 ∷ field 1 ∷ field 1 ∷ field 9 ∷ zeros 1 ∷ field 1 ∷ field 10 ∷ field 1 ∷ field 11 ∷ field 10 ∷ field 10 ∷ ones 1 ∷ []
+layout PlacePage = field 31 ∷ fixedOnes 1 ∷ field 1 ∷ field 1 ∷ field 9 ∷ fixedZeros 1 ∷ field 1 ∷ field 10 ∷ field 1 ∷ field 11 ∷ field 10 ∷ field 10 ∷ fixedOnes 1 ∷ []
 -- current time, page 1, total, item, warning number, kind 1, B68 to B110 all 1, 1
-layout CancelPage = field 31 ∷ ones 1 ∷ field 1 ∷ field 1 ∷ field 9 ∷ ones 1 ∷ ones 43 ∷ ones 1 ∷ []
+layout CancelPage = field 31 ∷ fixedOnes 1 ∷ field 1 ∷ field 1 ∷ field 9 ∷ fixedOnes 1 ∷ fixedOnes 43 ∷ fixedOnes 1 ∷ []
 -- B24 to B55 all 1, broadcaster number, B67 to B111 all 1
-layout NoInformation = ones 32 ∷ field 11 ∷ ones 45 ∷ []
+layout NoInformation = fixedOnes 32 ∷ field 11 ∷ fixedOnes 45 ∷ []
 
 -- what a record puts into the segments of its body, fixed ones included
 unfoldable pub bodyValues : Body → Record → List ℕ

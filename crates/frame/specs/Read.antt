@@ -6,7 +6,7 @@ use lib.Dec.{eqb}
 use lib.ListN.{length, take, drop, replicate}
 use Rattle.bits.specs.Bits.{bits, bytes, bitsOf}
 use Rattle.gf2.specs.Polynomial.{zeros}
-use Rattle.bits.specs.Field.{field}
+use Rattle.bits.specs.Field.{fieldAt}
 use Rattle.bits.specs.Layout.{unpack}
 use Rattle.bits.specs.Segment.{widths, fixedBitsHold}
 use Rattle.bits.specs.Refusal.{firstRefusal}
@@ -28,13 +28,13 @@ use Rattle.frame.specs.declared.Reading.the-variants.{Accepted, Refused}
 -- ---- the repaired frame c: 26 bytes that hold the repaired word at B17 to B203
 
 abbrev pub identificationIn : List ℕ → ℕ
-identificationIn c = field c 21 3
+identificationIn c = fieldAt c 21 3
 
 abbrev pub classIn : List ℕ → Class
 classIn c = classOf (identificationIn c)
 
 abbrev pub bodyIn : List ℕ → Body
-bodyIn c = bodyOf (classIn c) (field c 55 1) (field c 67 1)
+bodyIn c = bodyOf (classIn c) (fieldAt c 55 1) (fieldAt c 67 1)
 
 -- B24 to B111
 abbrev pub detailsIn : List ℕ → List Bool
@@ -46,7 +46,7 @@ valuesIn c = unpack (widths (layout (bodyIn c))) (detailsIn c)
 
 -- the record, with the reference and the pattern, which the code does not protect
 abbrev pub recordIn : (reference pattern : ℕ) → List ℕ → Record
-recordIn b p c = recordOf (bodyIn c) b p (identificationIn c) (field c 19 2) (valuesIn c)
+recordIn b p c = recordOf (bodyIn c) b p (identificationIn c) (fieldAt c 19 2) (valuesIn c)
 
 -- ---- the tests, in order
 
@@ -54,16 +54,16 @@ recordIn b p c = recordOf (bodyIn c) b p (identificationIn c) (field c 19 2) (va
 abbrev pub beforeRepair : List ℕ → List (ℕ × Bool)
 beforeRepair f =
     (1, not (eqb (length f) 26))
-    ∷ (2, not (eqb (field f 204 4) 0))
-    ∷ (3, eqb (patternOf (field f 1 16)) 2)
+    ∷ (2, not (eqb (fieldAt f 204 4) 0))
+    ∷ (3, eqb (patternOf (fieldAt f 1 16)) 2)
     ∷ []
 
 -- after it: the CRC, the identification, start/end and update, the bits fixed at 1, the house limits
 abbrev pub afterRepair : List ℕ → List (ℕ × Bool)
 afterRepair c =
-    (5, not (eqb (field c 112 10) (crc10Of (take 91 (drop 21 (bits c))))))
+    (5, not (eqb (fieldAt c 112 10) (crc10Of (take 91 (drop 21 (bits c))))))
     ∷ (6, isUndefined (classIn c))
-    ∷ (7, flagsWrong (classIn c) (field c 17 2) (field c 19 2))
+    ∷ (7, flagsWrong (classIn c) (fieldAt c 17 2) (fieldAt c 19 2))
     ∷ (8, not (fixedBitsHold (layout (bodyIn c)) (detailsIn c)))
     ∷ (9, overLimit (bodyIn c) (recordIn 0 0 c .latitude) (recordIn 0 0 c .longitude))
     ∷ []
@@ -87,7 +87,7 @@ judgeOf f = record { number = frameRefusal f; repaired = placesIn f }
 unfoldable pub readOf : List ℕ → Reading
 readOf f =
     cond (eqb (frameRefusal f) 0)
-    (Accepted (recordIn (field f 0 1) (patternOf (field f 1 16)) (repairOf f .word)) (record { repaired = placesIn f }))
+    (Accepted (recordIn (fieldAt f 0 1) (patternOf (fieldAt f 1 16)) (repairOf f .word)) (record { repaired = placesIn f }))
     (Refused (frameRefusal f))
 
 -- document 01's number and values of a reading: 0 with the repaired places and the record, or the refusal's number and nothing else
@@ -104,7 +104,7 @@ readingPlaces (Refused n) = 0
 unfoldable pub cleanOf : List ℕ → List ℕ
 cleanOf f =
     bytes 26
-    (bitsOf 1 (field f 0 1) ++ (bitsOf 16 (patternWord (patternOf (field f 1 16))) ++ (protected (repairOf f .word) ++ zeros 4)))
+    (bitsOf 1 (fieldAt f 0 1) ++ (bitsOf 16 (patternWord (patternOf (fieldAt f 1 16))) ++ (protected (repairOf f .word) ++ zeros 4)))
 
 -- what `clean` answers: the refusal's number, and the frame with its damage repaired, or 26 zeros where it is refused
 unfoldable pub cleanedOf : List ℕ → Cleaned

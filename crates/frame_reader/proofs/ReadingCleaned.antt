@@ -8,7 +8,7 @@ use lib.ListN.{length, drop, replicate}
 use lib.Seq.{paste, drop-drop}
 use borrow.Author.Tests.{eq-eqb, ne-eqb, eqb-true, not-false}
 use Rattle.bits.specs.Bits.{bits, bytes, bitsOf}
-use Rattle.bits.specs.Field.{field, putBits, within, putOf}
+use Rattle.bits.specs.Field.{fieldAt, putBits, within, putOf}
 use Rattle.bits.proofs.Field.{bits-putOf, length-putOf}
 use Rattle.bits.proofs.Refusal.{refusal-none}
 use Rattle.gf2.specs.Polynomial.{zeros}
@@ -82,12 +82,12 @@ module _ (f : List ℕ) (e : frameRefusal f ≡ 0) where
           rw (repair-found f (untouched .0) c k d, bits-wordBytes c l, protected-wordBytes c l)
       go (none n) = let z : _≡_ {A = ℕ} 4 0 = sym (ap numberOf (repair-none f (untouched .0) n)) ∙ untouched .1 in absurd (omega arith)
 
-  cleaned-bytes : (r : Record) → r ≡ recordIn (field f 0 1) (patternOf (field f 1 16)) (repairOf f .word)
+  cleaned-bytes : (r : Record) → r ≡ recordIn (fieldAt f 0 1) (patternOf (fieldAt f 1 16)) (repairOf f .word)
       → putOf (putOf (repairOf f .word) 0 1 (r .reference)) 1 16 (patternWord (r .pattern)) ≡ cleanOf f
   unfolding cleanOf
   cleaned-bytes r er =
-      let a : r .reference ≡ field f 0 1 = ap (λ (k : Record). k .reference) er ∙ reference-in _ _ _ _ _ _ in
-      let b : r .pattern ≡ patternOf (field f 1 16) = ap (λ (k : Record). k .pattern) er ∙ pattern-in _ _ _ _ _ _ in
+      let a : r .reference ≡ fieldAt f 0 1 = ap (λ (k : Record). k .reference) er ∙ reference-in _ _ _ _ _ _ in
+      let b : r .pattern ≡ patternOf (fieldAt f 1 16) = ap (λ (k : Record). k .pattern) er ∙ pattern-in _ _ _ _ _ _ in
       put-front (repairOf f .word) (r .reference) (patternWord (r .pattern)) word-length
       ∙ rw (a, b, after-front)
 

@@ -8,7 +8,7 @@ use lib.Dec.{eqb}
 use lib.ListN.{length, take, drop, length-drop}
 use borrow.Author.Tests.{eq-eqb, ne-eqb}
 use Rattle.bits.specs.Bits.{bits}
-use Rattle.bits.specs.Field.{field, within, getOf}
+use Rattle.bits.specs.Field.{fieldAt, within, getOf}
 use Rattle.bits.specs.Segment.{fixedBitsHold}
 use Rattle.bits.specs.Refusal.{firstRefusal}
 use Rattle.bits.proofs.Bits.{bits-take, bits-drop}
@@ -26,9 +26,9 @@ use Rattle.frame.specs.declared.Body.the-variants.{AreaPage, PlacePage, CancelP
 use Rattle.frame_reader.specs.declared.Details.{Details}
 
 -- a field that lies in 26 bytes
-pub got : (s : List ℕ) (k w n : ℕ) → length s ≡ 26 → within 26 k w ≡ true → n ≡ getOf s k w → n ≡ field s k w
+pub got : (s : List ℕ) (k w n : ℕ) → length s ≡ 26 → within 26 k w ≡ true → n ≡ getOf s k w → n ≡ fieldAt s k w
 got s k w n h t e =
-    e ∙ ap (λ m. cond (within m k w) (field s k w) 0) h ∙ ap (λ b. cond b (field s k w) 0) t
+    e ∙ ap (λ m. cond (within m k w) (fieldAt s k w) 0) h ∙ ap (λ b. cond b (fieldAt s k w) 0) t
 
 -- ---- before the repair
 
@@ -37,32 +37,32 @@ module _ (f : List ℕ) where
   front-short n = tested (met (ap not (ne-eqb (length f) 26 n)))
 
   module _ (h : length f ≡ 26) (filler : ℕ) (ef : filler ≡ getOf f 204 4) where
-    field-filler : filler ≡ field f 204 4
+    field-filler : filler ≡ fieldAt f 204 4
     field-filler = got f 204 4 filler h refl ef
 
     pub front-filler : (filler ≡ 0 → ⊥) → 2 ≡ firstRefusal (beforeRepair f)
     front-filler n =
         tested
         (unmet (ap not (eq-eqb (length f) 26 h))
-        (met (ap not (ne-eqb (field f 204 4) 0 (λ z. n (field-filler ∙ z))))))
+        (met (ap not (ne-eqb (fieldAt f 204 4) 0 (λ z. n (field-filler ∙ z))))))
 
     module _ (z : filler ≡ 0) (sync pattern : ℕ) (es : sync ≡ getOf f 1 16) (ep : pattern ≡ patternOf sync) where
-      field-pattern : pattern ≡ patternOf (field f 1 16)
+      field-pattern : pattern ≡ patternOf (fieldAt f 1 16)
       field-pattern = ep ∙ ap patternOf (got f 1 16 sync h refl es)
 
       pub front-pattern : pattern ≡ 2 → 3 ≡ firstRefusal (beforeRepair f)
       front-pattern n =
           tested
           (unmet (ap not (eq-eqb (length f) 26 h))
-          (unmet (ap not (eq-eqb (field f 204 4) 0 (sym field-filler ∙ z)))
-          (met (eq-eqb (patternOf (field f 1 16)) 2 (sym field-pattern ∙ n)))))
+          (unmet (ap not (eq-eqb (fieldAt f 204 4) 0 (sym field-filler ∙ z)))
+          (met (eq-eqb (patternOf (fieldAt f 1 16)) 2 (sym field-pattern ∙ n)))))
 
       pub front-none : (pattern ≡ 2 → ⊥) → 0 ≡ firstRefusal (beforeRepair f)
       front-none n =
           tested
           (unmet (ap not (eq-eqb (length f) 26 h))
-          (unmet (ap not (eq-eqb (field f 204 4) 0 (sym field-filler ∙ z)))
-          (unmet (ne-eqb (patternOf (field f 1 16)) 2 (λ e. n (field-pattern ∙ e))) end)))
+          (unmet (ap not (eq-eqb (fieldAt f 204 4) 0 (sym field-filler ∙ z)))
+          (unmet (ne-eqb (patternOf (fieldAt f 1 16)) 2 (λ e. n (field-pattern ∙ e))) end)))
 
 -- ---- the repaired frame
 
@@ -116,7 +116,7 @@ tells c d x p e =
 -- ---- after the repair, each test met or left
 
 module _ (c : List ℕ) (h : length c ≡ 26) (d : Details) (t : Tells c d) (differs : Bool)
-    (e5 : differs ≡ not (eqb (field c 112 10) (crc10Of (take 91 (drop 21 (bits c)))))) where
+    (e5 : differs ≡ not (eqb (fieldAt c 112 10) (crc10Of (take 91 (drop 21 (bits c)))))) where
   pub crc-refused : differs ≡ true → 5 ≡ firstRefusal (afterRepair c)
   crc-refused m = tested (met (sym e5 ∙ m))
 
@@ -131,7 +131,7 @@ module _ (c : List ℕ) (h : length c ≡ 26) (d : Details) (t : Tells c d) (dif
     undefined-refused m = past-crc (met (test6 ∙ m))
 
     module _ (z6 : undefined ≡ false) (s u : ℕ) (wrong : Bool) (es : s ≡ getOf c 17 2) (eu : u ≡ getOf c 19 2) (e7 : wrong ≡ flagsWrong k s u) where
-      test7 : flagsWrong (classIn c) (field c 17 2) (field c 19 2) ≡ wrong
+      test7 : flagsWrong (classIn c) (fieldAt c 17 2) (fieldAt c 19 2) ≡ wrong
       test7 =
           sym
           (e7 ∙ ap (λ x. flagsWrong x s u) (class-in c h i k ei ek)

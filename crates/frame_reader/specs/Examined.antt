@@ -5,7 +5,7 @@ use mathlib.Core.List.{List}
 use Prim.Native.Nat.{ℕ}
 use lib.Dec.{eqb}
 use lib.ListN.{replicate}
-use Rattle.bits.specs.Field.{field}
+use Rattle.bits.specs.Field.{fieldAt}
 use Rattle.bits.specs.Layout.{unpack}
 use Rattle.bits.specs.Segment.{widths, fixedBitsHold}
 use Rattle.bits.specs.Refusal.{firstRefusal}
@@ -27,7 +27,7 @@ detailsOf b x p i u bs =
 
 -- the details that stand in the repaired frame c
 abbrev pub wordDetails : (reference pattern : ℕ) → List ℕ → Details
-wordDetails x p c = detailsOf (bodyIn c) x p (identificationIn c) (field c 19 2) (detailsIn c)
+wordDetails x p c = detailsOf (bodyIn c) x p (identificationIn c) (fieldAt c 19 2) (detailsIn c)
 
 -- d has what the tests after the repair ask of the details of c
 pub record Tells (c : List ℕ) (d : Details) : Type 0 where

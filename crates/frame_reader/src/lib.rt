@@ -4,7 +4,7 @@ ghost use mathlib.Core.Bool.{not};
 ghost use lib.Dec.{eqb};
 ghost use lib.ListN.{length, take, drop};
 ghost use Rattle.bits.specs.Bits.{bits};
-ghost use Rattle.bits.specs.Field.{field};
+ghost use Rattle.bits.specs.Field.{fieldAt};
 ghost use Rattle.bits.specs.Refusal.{firstRefusal};
 ghost use Rattle.crc.specs.Crc.{crc10Of};
 ghost use Rattle.frame.specs.Read.{bodyIn, beforeRepair, afterRepair, readOf, judgeOf};
@@ -266,7 +266,7 @@ fn word_details(reference: u64, pattern: u64, word: &[u8]) -> Details
 // The CRC of a repaired frame is not the one that stands in it.
 fn crc_differs(word: &[u8]) -> bool
     requires { ⌜ length (now word) ≡ 26 ⌝ }
-    ensures { λ r. ⌜ r ≡ not (eqb (field (now (word .entry)) 112 10) (crc10Of (take 91 (drop 21 (bits (now (word .entry))))))) ⌝ }
+    ensures { λ r. ⌜ r ≡ not (eqb (fieldAt (now (word .entry)) 112 10) (crc10Of (take 91 (drop 21 (bits (now (word .entry))))))) ⌝ }
 {
     let stands = bits::get(word, 112, 10);
     let crc = crc::crc10(word, 21, 91);

@@ -8,7 +8,7 @@ use Rattle.gf2.specs.Polynomial.{poly, add, scale, remainder, checkBits, member
 use Rattle.bits.specs.Bits.{digit, odd, value, bitsOf, bits, bytes}
 use Rattle.bits.specs.Layout.{pack}
 use Rattle.bits.specs.Segment.{widths, freeWidths, withFixed}
-use Rattle.bits.specs.Refusal.{firstRefusal}
+use Rattle.bits.specs.Refusal.{firstRefusal, testNumbers}
 use Rattle.crc.specs.Crc.{crc, crc10, crc32}
 use Rattle.dsc.specs.Code.{powers, generatorLow, parityOf}
 use Rattle.frame.specs.Identification.{classOf}
@@ -21,14 +21,13 @@ use Rattle.header.specs.Fields.{pairs, frontFields, extensionFields, Siz
 use Rattle.header.specs.Tests.{among, tooWide}
 use Rattle.header.specs.Header.{headerTests, sealed, headerOf, recordTests, recordRefusal}
 use Rattle.header.specs.Laying.{withAc}
-use Rattle.header.specs.Promises.{numbers}
 use Rattle.header.specs.Worked.{sample}
 use Rattle.header.specs.declared.Header.{Header}
 
-pub header-order : (h : List ℕ) → numbers (headerTests h) ≡ 1 ∷ 12 ∷ 13 ∷ 14 ∷ 15 ∷ []
+pub header-order : (h : List ℕ) → testNumbers (headerTests h) ≡ 1 ∷ 12 ∷ 13 ∷ 14 ∷ 15 ∷ []
 header-order h = refl
 
-pub record-order : (r : Header) → numbers (recordTests r) ≡ 10 ∷ 12 ∷ 14 ∷ 15 ∷ []
+pub record-order : (r : Header) → testNumbers (recordTests r) ≡ 10 ∷ 12 ∷ 14 ∷ 15 ∷ []
 record-order r = refl
 
 -- a sample whose fields fit, and what it is refused for

@@ -8,7 +8,7 @@ use lib.ListN.{length, take, drop, replicate, length-append, length-drop, take-a
 use lib.Seq.{take-at, drop-at, take-all, length-take-le}
 use Rattle.bits.specs.Bits.{bits, bytes, Bytes}
 use Rattle.bits.specs.Layout.{sum, unpack}
-use Rattle.bits.specs.Segment.{Segment, field, ones, widths, unpackSegments, fixedHold, fixedBitsHold}
+use Rattle.bits.specs.Segment.{Segment, field, fixedOnes, widths, unpackSegments, fixedHold, fixedBitsHold}
 use Rattle.bits.proofs.Bits.{length-bits, length-bytes, bits-bytes, bytes-bits, bits-take, bits-drop}
 use Rattle.bits.proofs.Segment.{fixedBitsHold-append}
 use Rattle.crc.specs.Crc.{crc32Of}
@@ -29,7 +29,7 @@ acLayout : List Segment
 acLayout = replicate 25 (field 8) ++ field 4 ∷ []
 
 onesLayout : List Segment
-onesLayout = ones 4 ∷ replicate 59 (ones 8)
+onesLayout = fixedOnes 4 ∷ replicate 59 (fixedOnes 8)
 
 extension-parts : extensionLayout ≡ acLayout ++ onesLayout
 unfolding extensionLayout acLayout onesLayout

@@ -2,10 +2,11 @@
 use mathlib.Core.Path.{_≡_}
 use mathlib.Core.Bool.{Bool, true, false}
 use mathlib.Core.Logic.{_≢_}
-use mathlib.Core.List.{List, [], _∷_, _++_, map}
+use mathlib.Core.List.{List, [], _∷_, _++_}
 use Prim.Native.Nat.{ℕ}
 use lib.ListN.{length, take, drop, replicate}
 use Rattle.bits.specs.Bits.{bits, bytes, Bytes}
+use Rattle.bits.specs.Refusal.{testNumbers}
 use Rattle.gf2.specs.Polynomial.{zeros}
 use Rattle.crc.specs.Crc.{crc32Of}
 use Rattle.frame.specs.Read.{readOf, frameRefusal}
@@ -17,10 +18,6 @@ use Rattle.header.specs.Tests.{tooWide}
 use Rattle.header.specs.Header.{frontIn, headerTests, recordTests, headerRefusal, headerReadOf, headerOf, Legal, recordRefusal, writeNumber, writeOf}
 use Rattle.header.specs.Laying.{acBits, repairedBits, layInNumber, layInOf, takeOutOf}
 use Rattle.header.specs.declared.Header.{Header}
-
--- the numbers of a table of tests, in their order
-abbrev pub numbers : List (ℕ × Bool) → List ℕ
-numbers = map (λ t. t .0)
 
 pub record Demand2 : Type 0 where
   -- a legal header, written and read, comes back the same
@@ -38,8 +35,8 @@ pub record Demand2 : Type 0 where
   pub written-long : (r : Header) → length (headerOf r) ≡ 188
   pub written-crc : (r : Header) → crc32Of (bits (drop 4 (headerOf r))) ≡ 0
   -- the tests stand in document 01's order
-  pub header-order : (h : List ℕ) → numbers (headerTests h) ≡ 1 ∷ 12 ∷ 13 ∷ 14 ∷ 15 ∷ []
-  pub record-order : (r : Header) → numbers (recordTests r) ≡ 10 ∷ 12 ∷ 14 ∷ 15 ∷ []
+  pub header-order : (h : List ℕ) → testNumbers (headerTests h) ≡ 1 ∷ 12 ∷ 13 ∷ 14 ∷ 15 ∷ []
+  pub record-order : (r : Header) → testNumbers (recordTests r) ≡ 10 ∷ 12 ∷ 14 ∷ 15 ∷ []
   -- a legal header is written into a buffer of 188 bytes; at a refusal the buffer stays as it was
   pub legal-exactly : (r : Header) → writeNumber r 188 ≡ recordRefusal r
   pub written : (r : Header) (s : List ℕ) → Legal r → length s ≡ 188 → writeOf r s ≡ headerOf r

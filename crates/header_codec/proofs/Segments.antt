@@ -8,7 +8,7 @@ use lib.ListN.{length, drop}
 use Rattle.bits.specs.Bits.{bits, bytes, Bytes}
 use Rattle.header_codec.proofs.Writing.{written-part}
 use Rattle.bits.specs.Layout.{sum, Layout}
-use Rattle.bits.specs.Segment.{Segment, field, ones, zeros, segments, widths, freeWidths, packSegments, unpackSegments, fixedBitsHold}
+use Rattle.bits.specs.Segment.{Segment, field, fixedOnes, fixedZeros, segments, widths, freeWidths, packSegments, unpackSegments, fixedBitsHold}
 use Rattle.bits.proofs.Layouts.{layoutb-layout}
 use Rattle.bits.proofs.Segment.{length-packSegments}
 use Rattle.header.specs.Layout.{frontLayout, extensionLayout}
@@ -18,8 +18,8 @@ pub segments-kinds : (l : List Segment) → segments (kindsOf l) (widths l) ≡ 
 unfolding segments kindsOf widths
 segments-kinds [] = refl
 segments-kinds (field w ∷ l) = ap (field w ∷_) (segments-kinds l)
-segments-kinds (ones w ∷ l) = ap (ones w ∷_) (segments-kinds l)
-segments-kinds (zeros w ∷ l) = ap (zeros w ∷_) (segments-kinds l)
+segments-kinds (fixedOnes w ∷ l) = ap (fixedOnes w ∷_) (segments-kinds l)
+segments-kinds (fixedZeros w ∷ l) = ap (fixedZeros w ∷_) (segments-kinds l)
 
 -- a row of n bytes with m fields
 pub record Row (l : List Segment) (n m : ℕ) : Type 0 where

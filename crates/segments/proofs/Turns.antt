@@ -12,7 +12,7 @@ use borrow.Author.Tests.{eq-eqb, eqb-true}
 use Rattle.bits.specs.Bits.{value, bitsOf, bits}
 use Rattle.bits.specs.Field.{putOf}
 use Rattle.bits.specs.Layout.{pack, unpack}
-use Rattle.bits.specs.Segment.{Segment, field, ones, zeros, segment, segments, widths, freeWidths, holds, fixedHold, free, withFixed, packSegments, unpackSegments, fixedBitsHold}
+use Rattle.bits.specs.Segment.{Segment, field, fixedOnes, fixedZeros, segment, segments, widths, freeWidths, holds, fixedHold, free, withFixed, packSegments, unpackSegments, fixedBitsHold}
 use Rattle.bits.proofs.Segment.{length-segments, getD-segments}
 use Rattle.bits.proofs.Bits.{length-bitsOf, length-bits}
 use Rattle.bits.proofs.Field.{within-room, bits-putOf}
@@ -44,7 +44,7 @@ pub read-next : (vs : List ℕ) (k w i : ℕ) (out : List ℕ) (l : List Segment
 unfolding freeWidths free widths unpack
 read-next vs k w i out l bs = go (eqb k 0) (eqb k 1)
   where
-    go : (s t : Bool) → ReadSoFar vs i out (cond s (field w) (cond t (ones w) (zeros w)) ∷ l) bs
+    go : (s t : Bool) → ReadSoFar vs i out (cond s (field w) (cond t (fixedOnes w) (fixedZeros w)) ∷ l) bs
         → ReadSoFar vs (cond s (i + 1) i) (cond s (set out i (value (take w bs))) out) l (drop w bs)
     go true t r =
         let h : i < length out = omega (arith, r .room) in
@@ -64,7 +64,7 @@ room-at : (vs : List ℕ) (k w i : ℕ) (out : List ℕ) (l : List Segment) (bs 
 unfolding freeWidths
 room-at vs k w i out l bs r = (omega (arith, r .room), λ e. go (eqb k 0) (eqb k 1) (eq-eqb k 0 e) r)
   where
-    go : (s t : Bool) → s ≡ true → ReadSoFar vs i out (cond s (field w) (cond t (ones w) (zeros w)) ∷ l) bs → i < length out
+    go : (s t : Bool) → s ≡ true → ReadSoFar vs i out (cond s (field w) (cond t (fixedOnes w) (fixedZeros w)) ∷ l) bs → i < length out
     go true t e q = omega (arith, q .room)
     go false t e q = absurd (false≢true e)
 
@@ -101,7 +101,7 @@ holds-head : (k w : ℕ) (l : List Segment) (bs : List Bool)
 unfolding fixedHold widths unpack
 holds-head k w l bs = go (eqb k 0) (eqb k 1)
   where
-    go : (s t : Bool) → let g = cond s (field w) (cond t (ones w) (zeros w)) in fixedBitsHold (g ∷ l) bs ≡ (holds g (value (take w bs)) && fixedBitsHold l (drop w bs))
+    go : (s t : Bool) → let g = cond s (field w) (cond t (fixedOnes w) (fixedZeros w)) in fixedBitsHold (g ∷ l) bs ≡ (holds g (value (take w bs)) && fixedBitsHold l (drop w bs))
     go true t = refl
     go false true = refl
     go false false = refl
@@ -145,7 +145,7 @@ room-left : (whole sofar : List Bool) (vs : List ℕ) (k w i : ℕ) (l : List Se
 unfolding freeWidths
 room-left whole sofar vs k w i l r = (omega (arith, r .count), λ e. go (eqb k 0) (eqb k 1) (eq-eqb k 0 e) r)
   where
-    go : (s t : Bool) → s ≡ true → WrittenSoFar whole sofar vs i (cond s (field w) (cond t (ones w) (zeros w)) ∷ l) → i < length vs
+    go : (s t : Bool) → s ≡ true → WrittenSoFar whole sofar vs i (cond s (field w) (cond t (fixedOnes w) (fixedZeros w)) ∷ l) → i < length vs
     go true t e q = omega (arith, q .count)
     go false t e q = absurd (false≢true e)
 
@@ -160,7 +160,7 @@ write-next : (whole sofar : List Bool) (vs : List ℕ) (k w i : ℕ) (l : List S
 unfolding freeWidths withFixed widths pack
 write-next whole sofar vs k w i l = go (eqb k 0) (eqb k 1)
   where
-    go : (s t : Bool) → WrittenSoFar whole sofar vs i (cond s (field w) (cond t (ones w) (zeros w)) ∷ l)
+    go : (s t : Bool) → WrittenSoFar whole sofar vs i (cond s (field w) (cond t (fixedOnes w) (fixedZeros w)) ∷ l)
         → WrittenSoFar whole (sofar ++ bitsOf w (cond s (getD vs i 0) (cond t (2 ^ w - 1) 0))) vs (cond s (i + 1) i) l
     go true t r =
         let n : i + 1 ≡ suc i = add-one i in

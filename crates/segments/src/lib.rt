@@ -7,7 +7,7 @@ ghost use Prim.Native.Nat.{_+_, _*_, _<_, _≤_};
 ghost use lib.Dec.{eqb};
 ghost use lib.ListN.{length, drop, set};
 ghost use Rattle.bits.specs.Bits.{bits};
-ghost use Rattle.bits.specs.Field.{field, putBits};
+ghost use Rattle.bits.specs.Field.{fieldAt, putBits};
 ghost use Rattle.bits.specs.Layout.{sum, Layout};
 ghost use Rattle.bits.specs.Segment.{segments, freeWidths, packSegments, unpackSegments, fixedBitsHold, segment};
 ghost use Rattle.segments.specs.Step.{stored, nextPlace, segmentValue};

@@ -6,14 +6,14 @@ use lib.Pow.{pow-mono, shl-exact}
 use denote.Ref.{now}
 use lib.ListN.{drop}
 use Rattle.bits.specs.Bits.{value, bits}
-use Rattle.bits.specs.Field.{field}
+use Rattle.bits.specs.Field.{fieldAt}
 use Rattle.bits.proofs.Bits.{value-take-lt}
 use Rattle.bits.proofs.Field.{field-add}
 use Rattle.bits.proofs.read_field.Statement.{statement}
 use Rattle.bits.proofs.read_field.Tie as tie
 
 abbrev Inv-loop : tie.InvT-loop
-Inv-loop s at width first off v₀ i₀ v i = (i ≤ width) × (v ≡ field s at i)
+Inv-loop s at width first off v₀ i₀ v i = (i ≤ width) × (v ≡ fieldAt s at i)
 
 abbrev μ-loop : tie.MeasureT-loop
 μ-loop s at width first off v₀ i₀ v i = width - i
@@ -46,7 +46,7 @@ read-part-requires c κs = (omega arith, omega arith)
 -- the i bits read are the high ones, the n of this turn the low ones
 next : (c : tie.After-read-part Inv-loop μ-loop)
     → c .before .before .before .loop .v * 2 ^ c .before .smaller .result % 2 ^ 64 + c .read-part .result
-    ≡ field (now (c .before .before .before .before .before .args .s)) (c .before .before .before .before .before .args .at) (c .before .before .before .loop .i + c .before .smaller .result)
+    ≡ fieldAt (now (c .before .before .before .before .before .args .s)) (c .before .before .before .before .before .args .at) (c .before .before .before .loop .i + c .before .smaller .result)
 next c =
     let a = c .before .before .before .before .before .args in
     let s = now (a .s) in
@@ -83,7 +83,7 @@ returns c =
     let a = c .before .before .before .args in
     let l = c .before .loop in
     let e : l .i ≡ a .width = omega arith in
-    l .inv .1 ∙ ap (λ (k : ℕ). field (now (a .s)) (a .at) k) e
+    l .inv .1 ∙ ap (λ (k : ℕ). fieldAt (now (a .s)) (a .at) k) e
 
 pub read-field-spec : {M : Type 1} → statement M
 read-field-spec =

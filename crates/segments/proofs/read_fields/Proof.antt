@@ -6,7 +6,7 @@ use native.Mathlib.Omega.{arith}
 use denote.Ref.{now}
 use lib.ListN.{length, getD, take, drop}
 use Rattle.bits.specs.Bits.{bits}
-use Rattle.bits.specs.Field.{field}
+use Rattle.bits.specs.Field.{fieldAt}
 use Rattle.bits.specs.Layout.{sum}
 use Rattle.bits.specs.Segment.{segments, segment, holds, unpackSegments, fixedBitsHold}
 use Rattle.bits.proofs.Field.{within-room}
@@ -79,9 +79,9 @@ loop-again c =
     let k = getD ks (l .j) 0 in
     let w = getD ws (l .j) 0 in
     let h : l .j < length ws = omega arith in
-    let v : read .result ≡ field s (l .at) w =
+    let v : read .result ≡ fieldAt s (l .at) w =
     read .ensures
-    ∙ ap (λ (t : Bool). cond t (field s (l .at) w) 0)
+    ∙ ap (λ (t : Bool). cond t (fieldAt s (l .at) w) 0)
     (within-room (length s) (l .at) w (omega (arith, b .pre .0 .narrow (l .j))) (omega (arith, sum-next ws (l .j) h, b .pre .0 .room))) in (
       omega arith,
       ap (λ (m : ℕ). m + w) (l .inv .1) ∙ sym (sum-take ws (l .j) h),
