@@ -1,16 +1,45 @@
-/* Reads one frame from standard input and says what it warns of. */
+/* Reads one frame from standard input and says what it warns of: the areas by number, or the place. */
 #include <stdio.h>
+
 #include "gvozdyana.h"
 
-int main(void) {
-    uint8_t frame[26];
-    uint64_t record[18];
+static void print_areas(const uint64_t *record)
+{
+    printf("areas warned:");
+    for (uint64_t area = 0; area < GVZ_AREAS; area++) {
+        if (GVZ_WARNED(gvz_warned(record, GVZ_FRAME_VALUES, area))) {
+            printf(" %u", (unsigned)area);
+        }
+    }
+    printf("\n");
+}
+
+int main(void)
+{
+    uint8_t frame[GVZ_FRAME_BYTES];
+    uint64_t record[GVZ_FRAME_VALUES];
+    double place[GVZ_PLACE_VALUES];
     size_t got = fread(frame, 1, sizeof frame, stdin);
-    uint32_t status = gvz_frame_read(frame, got, record, 18);
-    if (GVZ_NUMBER(status) != 0) {
-        printf("refused %u\n", (unsigned)GVZ_NUMBER(status));
+    uint32_t status = gvz_frame_read(frame, got, record, GVZ_FRAME_VALUES);
+    if (GVZ_REFUSAL(status) != GVZ_REFUSAL_NONE) {
+        printf("refused %u\n", (unsigned)GVZ_REFUSAL(status));
         return 1;
     }
-    printf("identification %u, %u places repaired\n", (unsigned)record[2], (unsigned)GVZ_PLACES(status));
+    printf("identification %u, update %u, %u places repaired\n", (unsigned)record[GVZ_RECORD_IDENTIFICATION],
+        (unsigned)record[GVZ_RECORD_UPDATE], (unsigned)GVZ_REPAIRED(status));
+    switch (GVZ_REPORT_CASE(gvz_report(record, GVZ_FRAME_VALUES, place, GVZ_PLACE_VALUES))) {
+    case GVZ_REPORT_PLACE:
+        printf("place: latitude %.1f, longitude %.1f, %.0f km deep\n", place[GVZ_PLACE_LATITUDE], place[GVZ_PLACE_LONGITUDE],
+            place[GVZ_PLACE_DEPTH]);
+        break;
+    case GVZ_REPORT_CANCELLATION:
+        printf("cancellation of warning %u\n", (unsigned)record[GVZ_RECORD_NUMBER]);
+        break;
+    case GVZ_REPORT_AREAS_ONLY:
+        print_areas(record);
+        break;
+    default:
+        printf("no information\n");
+    }
     return 0;
 }

@@ -87,7 +87,7 @@ static void test_repair(void)
     set_places(frame, 8);
     expect_repair("eight places are repaired to zeros", frame, 26, 26, 8 << 8, zeros);
     set_places(frame, 9);
-    expect_repair("nine places are refused, and the word stays", frame, 26, 26, GVZ_BEYOND_REPAIR, NULL);
+    expect_repair("nine places are refused, and the word stays", frame, 26, 26, GVZ_REFUSAL_BEYOND_REPAIR, NULL);
     set_places(frame, 10);
     expect_repair("ten places are repaired to the generator", frame, 26, 26, 8 << 8, generator);
     frame[0] = 0xFF;
@@ -97,15 +97,15 @@ static void test_repair(void)
     expect_repair("B0 to B16 and the filler are not looked at", frame, 26, 26, 8 << 8, generator);
     for (size_t n = 0; n <= 40; n++) {
         if (n != GVZ_FRAME_BYTES) {
-            expect_repair("a frame of another length is refused", frame, n, 26, GVZ_WRONG_LENGTH, NULL);
-            expect_repair("a word of another length is refused", generator, 26, n, GVZ_WRONG_LENGTH, NULL);
+            expect_repair("a frame of another length is refused", frame, n, 26, GVZ_REFUSAL_WRONG_LENGTH, NULL);
+            expect_repair("a word of another length is refused", generator, 26, n, GVZ_REFUSAL_WRONG_LENGTH, NULL);
         }
     }
-    expect("the parts of a status", GVZ_NUMBER((3u << 8) + 4) == 4 && GVZ_PLACES((3u << 8) + 4) == 3);
+    expect("the parts of a status", GVZ_REFUSAL((3u << 8) + 4) == 4 && GVZ_REPAIRED((3u << 8) + 4) == 3);
 }
 
 /* The record of PLACE, a test: 35.6 south, 139.7 west, 40 km. */
-static const uint64_t place_record[GVZ_RECORD_VALUES] = {1, 0, 2, 1, 5, 1, 0, 1, 0, 300, 0, 1, 356, 1, 1397, 40, 900, 0};
+static const uint64_t place_record[GVZ_FRAME_VALUES] = {1, 0, 2, 1, 5, 1, 0, 1, 0, 300, 0, 1, 356, 1, 1397, 40, 900, 0};
 
 /* Of 20 values that hold 7 the first 18 are left as `record`, if it is not NULL, and the rest as they were. */
 static void expect_frame_read(const char *what, const char *digits, size_t frame_len, size_t record_len, uint32_t status,
@@ -114,15 +114,15 @@ static void expect_frame_read(const char *what, const char *digits, size_t frame
     uint64_t left[20], expected[20];
     for (int i = 0; i < 20; i++) {
         left[i] = 7;
-        expected[i] = record != NULL && i < GVZ_RECORD_VALUES ? record[i] : 7;
+        expected[i] = record != NULL && i < GVZ_FRAME_VALUES ? record[i] : 7;
     }
     expect_left(what, gvz_frame_read(frame_of(digits), frame_len, left, record_len), status, left, expected, sizeof left);
 }
 
 static void test_frame_read(void)
 {
-    const uint64_t zeros[GVZ_RECORD_VALUES] = {0};
-    uint64_t cancellation[GVZ_RECORD_VALUES] = {0}, nothing[GVZ_RECORD_VALUES] = {0};
+    const uint64_t zeros[GVZ_FRAME_VALUES] = {0};
+    uint64_t cancellation[GVZ_FRAME_VALUES] = {0}, nothing[GVZ_FRAME_VALUES] = {0};
     cancellation[GVZ_RECORD_PAGE] = 1;
     cancellation[GVZ_RECORD_KIND] = 1;
     nothing[GVZ_RECORD_IDENTIFICATION] = 7;
@@ -133,17 +133,17 @@ static void test_frame_read(void)
     expect_frame_read("a cancellation", CANCELLATION, 26, 18, 0, cancellation);
     expect_frame_read("no information", NO_INFORMATION, 26, 18, 0, nothing);
     expect_frame_read("a place", PLACE, 26, 18, 0, place_record);
-    expect_frame_read("25 bytes", ALL_AREAS, 25, 18, GVZ_WRONG_LENGTH, NULL);
-    expect_frame_read("filler", "1af7000000000000000000000000000000000000000000000001", 26, 18, GVZ_FILLER_SET, NULL);
-    expect_frame_read("no pattern", "0000000000000000000000000000000000000000000000000000", 26, 18, GVZ_NO_PATTERN, NULL);
-    expect_frame_read("nine hits", NINE_HITS, 26, 18, GVZ_BEYOND_REPAIR, NULL);
-    expect_frame_read("CRC", CLEAN_WRONG_CRC, 26, 18, GVZ_FRAME_CRC, NULL);
-    expect_frame_read("identification 4", "1af7640000000000000000000000dd6ba7e8239c630ae7c28140", 26, 18, GVZ_IDENTIFICATION, NULL);
-    expect_frame_read("update 2 of 7", "1af777ffffffff00bfffffffffff3e583d134b51523b875a54e0", 26, 18, GVZ_START_END_OR_UPDATE, NULL);
-    expect_frame_read("B111", "1af7000000000100070a0000000071fee4dcd9339873b730f150", 26, 18, GVZ_FIXED_BIT, NULL);
-    expect_frame_read("latitude 901", "1af70a0000000ba58f0baea14709a335ac25ca42ddbf9efe2c30", 26, 18, GVZ_OVER_LIMIT, NULL);
-    expect_frame_read("a record of 17", ALL_AREAS, 26, 17, GVZ_WRONG_LENGTH, NULL);
-    expect_frame_read("a record of 19", ALL_AREAS, 26, 19, GVZ_WRONG_LENGTH, NULL);
+    expect_frame_read("25 bytes", ALL_AREAS, 25, 18, GVZ_REFUSAL_WRONG_LENGTH, NULL);
+    expect_frame_read("filler", "1af7000000000000000000000000000000000000000000000001", 26, 18, GVZ_REFUSAL_FILLER_SET, NULL);
+    expect_frame_read("no pattern", "0000000000000000000000000000000000000000000000000000", 26, 18, GVZ_REFUSAL_NO_PATTERN, NULL);
+    expect_frame_read("nine hits", NINE_HITS, 26, 18, GVZ_REFUSAL_BEYOND_REPAIR, NULL);
+    expect_frame_read("CRC", CLEAN_WRONG_CRC, 26, 18, GVZ_REFUSAL_FRAME_CRC, NULL);
+    expect_frame_read("identification 4", "1af7640000000000000000000000dd6ba7e8239c630ae7c28140", 26, 18, GVZ_REFUSAL_IDENTIFICATION, NULL);
+    expect_frame_read("update 2 of 7", "1af777ffffffff00bfffffffffff3e583d134b51523b875a54e0", 26, 18, GVZ_REFUSAL_START_END_OR_UPDATE, NULL);
+    expect_frame_read("B111", "1af7000000000100070a0000000071fee4dcd9339873b730f150", 26, 18, GVZ_REFUSAL_FIXED_BIT, NULL);
+    expect_frame_read("latitude 901", "1af70a0000000ba58f0baea14709a335ac25ca42ddbf9efe2c30", 26, 18, GVZ_REFUSAL_OVER_LIMIT, NULL);
+    expect_frame_read("a record of 17", ALL_AREAS, 26, 17, GVZ_REFUSAL_WRONG_LENGTH, NULL);
+    expect_frame_read("a record of 19", ALL_AREAS, 26, 19, GVZ_REFUSAL_WRONG_LENGTH, NULL);
 }
 
 /* place_record with one field changed, written into 28 bytes that hold 0xA5. */
@@ -165,14 +165,53 @@ static void expect_frame_write(const char *what, int field, uint64_t value, size
 static void test_frame_write(void)
 {
     expect_frame_write("a place", GVZ_RECORD_TIME, 5, 18, 26, 0, PLACE);
-    expect_frame_write("identification 8", GVZ_RECORD_IDENTIFICATION, 8, 18, 26, GVZ_IDENTIFICATION, NULL);
-    expect_frame_write("depth 1024", GVZ_RECORD_DEPTH, 1024, 18, 26, GVZ_FIELD, NULL);
-    expect_frame_write("a broadcaster", GVZ_RECORD_BROADCASTER, 1, 18, 26, GVZ_FIELD, NULL);
-    expect_frame_write("longitude 1801", GVZ_RECORD_LONGITUDE, 1801, 18, 26, GVZ_OVER_LIMIT, NULL);
-    expect_frame_write("a buffer of 25, before the record", GVZ_RECORD_IDENTIFICATION, 8, 18, 25, GVZ_WRONG_LENGTH, NULL);
-    expect_frame_write("a buffer of 27", GVZ_RECORD_TIME, 5, 18, 27, GVZ_WRONG_LENGTH, NULL);
-    expect_frame_write("a record of 17", GVZ_RECORD_TIME, 5, 17, 26, GVZ_WRONG_LENGTH, NULL);
-    expect_frame_write("a record of 19", GVZ_RECORD_TIME, 5, 19, 26, GVZ_WRONG_LENGTH, NULL);
+    expect_frame_write("identification 8", GVZ_RECORD_IDENTIFICATION, 8, 18, 26, GVZ_REFUSAL_IDENTIFICATION, NULL);
+    expect_frame_write("depth 1024", GVZ_RECORD_DEPTH, 1024, 18, 26, GVZ_REFUSAL_FIELD, NULL);
+    expect_frame_write("a broadcaster", GVZ_RECORD_BROADCASTER, 1, 18, 26, GVZ_REFUSAL_FIELD, NULL);
+    expect_frame_write("longitude 1801", GVZ_RECORD_LONGITUDE, 1801, 18, 26, GVZ_REFUSAL_OVER_LIMIT, NULL);
+    expect_frame_write("a buffer of 25, before the record", GVZ_RECORD_IDENTIFICATION, 8, 18, 25, GVZ_REFUSAL_WRONG_LENGTH, NULL);
+    expect_frame_write("a buffer of 27", GVZ_RECORD_TIME, 5, 18, 27, GVZ_REFUSAL_WRONG_LENGTH, NULL);
+    expect_frame_write("a record of 17", GVZ_RECORD_TIME, 5, 17, 26, GVZ_REFUSAL_WRONG_LENGTH, NULL);
+    expect_frame_write("a record of 19", GVZ_RECORD_TIME, 5, 19, 26, GVZ_REFUSAL_WRONG_LENGTH, NULL);
+}
+
+/* Which areas of a record are warned: those whose bit is 1 in `warned`, area 0 lowest. */
+static void expect_warned(const char *what, const uint64_t *record, uint64_t warned)
+{
+    int all = 1;
+    for (uint64_t area = 0; area < GVZ_AREAS; area++) {
+        uint32_t status = gvz_warned(record, GVZ_FRAME_VALUES, area);
+        all = all && GVZ_REFUSAL(status) == 0 && GVZ_WARNED(status) == (warned >> area & 1);
+    }
+    expect(what, all && gvz_warned(record, GVZ_FRAME_VALUES, GVZ_AREAS) == 0 && gvz_warned(record, GVZ_FRAME_VALUES, UINT64_MAX) == 0
+        && gvz_warned(record, GVZ_FRAME_VALUES, UINT64_C(1) << 32) == 0);
+}
+
+static void test_warned(void)
+{
+    const uint64_t all_areas = (UINT64_C(1) << GVZ_AREAS) - 1;
+    uint64_t record[GVZ_FRAME_VALUES + 1] = {0};
+
+    expect_warned("a record of zeros warns all areas", record, all_areas);
+    record[GVZ_RECORD_AREAS] = all_areas - (UINT64_C(1) << (55 - 15));
+    expect_warned("Tokyo alone", record, UINT64_C(1) << 15);
+    record[GVZ_RECORD_IDENTIFICATION] = GVZ_IDENTIFICATION_TEST_WITHOUT_AREA;
+    expect_warned("a test", record, UINT64_C(1) << 15);
+    record[GVZ_RECORD_AREAS] = 0;
+    for (uint64_t identification = 4; identification < 8; identification++) {
+        record[GVZ_RECORD_IDENTIFICATION] = identification;
+        expect_warned("no information, or undefined", record, 0);
+    }
+    expect_warned("a place", place_record, 0);
+    memset(record, 0, sizeof record);
+    record[GVZ_RECORD_PAGE] = 1;
+    record[GVZ_RECORD_KIND] = 1;
+    expect_warned("a cancellation", record, 0);
+    for (size_t n = 0; n <= GVZ_FRAME_VALUES + 1; n++) {
+        if (n != GVZ_FRAME_VALUES) {
+            expect("a record of another length", gvz_warned(record, n, 15) == GVZ_REFUSAL_WRONG_LENGTH);
+        }
+    }
 }
 
 /* ---- The place in degrees */
@@ -191,7 +230,7 @@ static void expect_report(const char *what, const uint64_t *record, size_t recor
 static void test_report(void)
 {
     const double place[GVZ_PLACE_VALUES] = {-35.6, -139.7, 40.0}, minus_zero[GVZ_PLACE_VALUES] = {-0.0, -139.7, 40.0};
-    uint64_t record[GVZ_RECORD_VALUES + 1] = {0};
+    uint64_t record[GVZ_FRAME_VALUES + 1] = {0};
 
     expect_report("areas only", record, 18, 3, GVZ_REPORT_AREAS_ONLY << 8, NULL);
     record[GVZ_RECORD_PAGE] = 1;
@@ -201,20 +240,20 @@ static void test_report(void)
     record[GVZ_RECORD_IDENTIFICATION] = 7;
     expect_report("nothing", record, 18, 3, GVZ_REPORT_NOTHING << 8, NULL);
     record[GVZ_RECORD_UPDATE] = 1;
-    expect_report("an update where none is free", record, 18, 3, GVZ_FIELD, NULL);
+    expect_report("an update where none is free", record, 18, 3, GVZ_REFUSAL_FIELD, NULL);
 
     memcpy(record, place_record, sizeof place_record);
     expect_report("a place", record, 18, 3, GVZ_REPORT_PLACE << 8, place);
-    expect_report("a record of 17", record, 17, 3, GVZ_WRONG_LENGTH, NULL);
-    expect_report("a record of 19", record, 19, 3, GVZ_WRONG_LENGTH, NULL);
-    expect_report("a place of 2", record, 18, 2, GVZ_WRONG_LENGTH, NULL);
-    expect_report("a place of 4", record, 18, 4, GVZ_WRONG_LENGTH, NULL);
+    expect_report("a record of 17", record, 17, 3, GVZ_REFUSAL_WRONG_LENGTH, NULL);
+    expect_report("a record of 19", record, 19, 3, GVZ_REFUSAL_WRONG_LENGTH, NULL);
+    expect_report("a place of 2", record, 18, 2, GVZ_REFUSAL_WRONG_LENGTH, NULL);
+    expect_report("a place of 4", record, 18, 4, GVZ_REFUSAL_WRONG_LENGTH, NULL);
     record[GVZ_RECORD_LATITUDE] = 0;
     expect_report("a southern 0", record, 18, 3, GVZ_REPORT_PLACE << 8, minus_zero);
     record[GVZ_RECORD_LATITUDE] = 901;
-    expect_report("latitude 901", record, 18, 3, GVZ_OVER_LIMIT, NULL);
+    expect_report("latitude 901", record, 18, 3, GVZ_REFUSAL_OVER_LIMIT, NULL);
     record[GVZ_RECORD_IDENTIFICATION] = 5;
-    expect_report("identification 5", record, 18, 3, GVZ_IDENTIFICATION, NULL);
+    expect_report("identification 5", record, 18, 3, GVZ_REFUSAL_IDENTIFICATION, NULL);
 }
 
 static double double_of(uint64_t bits)
@@ -240,15 +279,15 @@ static void test_desk(void)
 
     expect_desk("a place", -35.6, 139.7, 40.0, 5, 0, place);
     expect_desk("minus zero", -0.0, 0.0, 0.0, 5, 0, zeros);
-    expect_desk("a depth of minus zero", 0.0, 0.0, -0.0, 5, GVZ_NO_IMAGE, NULL);
-    expect_desk("latitude 90.1", 90.1, 0.0, 0.0, 5, GVZ_NO_IMAGE, NULL);
-    expect_desk("longitude 180.1", 0.0, 180.1, 0.0, 5, GVZ_NO_IMAGE, NULL);
-    expect_desk("a double beside 0.9", double_of(0x3FECCCCCCCCCCCCC), 0.0, 0.0, 5, GVZ_NO_IMAGE, NULL);
-    expect_desk("no number", 0.0, double_of(0x7FF8000000000001), 0.0, 5, GVZ_NO_IMAGE, NULL);
-    expect_desk("no number, signalling", double_of(0xFFF0000000000001), 0.0, 0.0, 5, GVZ_NO_IMAGE, NULL);
-    expect_desk("infinity", 0.0, 0.0, double_of(0x7FF0000000000000), 5, GVZ_NO_IMAGE, NULL);
-    expect_desk("fields of 4", -35.6, 139.7, 40.0, 4, GVZ_WRONG_LENGTH, NULL);
-    expect_desk("fields of 6, before the place", 90.1, 139.7, 40.0, 6, GVZ_WRONG_LENGTH, NULL);
+    expect_desk("a depth of minus zero", 0.0, 0.0, -0.0, 5, GVZ_REFUSAL_NO_IMAGE, NULL);
+    expect_desk("latitude 90.1", 90.1, 0.0, 0.0, 5, GVZ_REFUSAL_NO_IMAGE, NULL);
+    expect_desk("longitude 180.1", 0.0, 180.1, 0.0, 5, GVZ_REFUSAL_NO_IMAGE, NULL);
+    expect_desk("a double beside 0.9", double_of(0x3FECCCCCCCCCCCCC), 0.0, 0.0, 5, GVZ_REFUSAL_NO_IMAGE, NULL);
+    expect_desk("no number", 0.0, double_of(0x7FF8000000000001), 0.0, 5, GVZ_REFUSAL_NO_IMAGE, NULL);
+    expect_desk("no number, signalling", double_of(0xFFF0000000000001), 0.0, 0.0, 5, GVZ_REFUSAL_NO_IMAGE, NULL);
+    expect_desk("infinity", 0.0, 0.0, double_of(0x7FF0000000000000), 5, GVZ_REFUSAL_NO_IMAGE, NULL);
+    expect_desk("fields of 4", -35.6, 139.7, 40.0, 4, GVZ_REFUSAL_WRONG_LENGTH, NULL);
+    expect_desk("fields of 6, before the place", 90.1, 139.7, 40.0, 6, GVZ_REFUSAL_WRONG_LENGTH, NULL);
 }
 
 /* ---- Following the update number, and two tuners */
@@ -257,7 +296,7 @@ static void expect_follow(const char *what, uint32_t state, const char *digits, 
     uint32_t next)
 {
     uint32_t status = gvz_follow(state, frame_of(digits), frame_len);
-    expect(what, status == number + (event << 8) + (next << 16) && GVZ_NUMBER(status) == number && GVZ_EVENT(status) == event
+    expect(what, status == number + (event << 8) + (next << 16) && GVZ_REFUSAL(status) == number && GVZ_EVENT(status) == event
         && GVZ_STATE(status) == next);
 }
 
@@ -271,17 +310,17 @@ static void test_follow(void)
     expect_follow("of the other kind", GVZ_STATE_REAL(1u), PLACE, 26, 0, GVZ_EVENT_BEGINS, GVZ_STATE_TEST(1u));
     expect_follow("ended", GVZ_STATE_TEST(3u), NO_INFORMATION, 26, 0, GVZ_EVENT_ENDED, GVZ_STATE_QUIET);
     expect_follow("quiet", GVZ_STATE_QUIET, NO_INFORMATION, 26, 0, GVZ_EVENT_QUIET, GVZ_STATE_QUIET);
-    expect_follow("refused", GVZ_STATE_TEST(3u), NINE_HITS, 26, GVZ_BEYOND_REPAIR, GVZ_EVENT_REFUSED, GVZ_STATE_TEST(3u));
-    expect_follow("5 bytes", GVZ_STATE_REAL(2u), ALL_AREAS, 5, GVZ_WRONG_LENGTH, GVZ_EVENT_REFUSED, GVZ_STATE_REAL(2u));
+    expect_follow("refused", GVZ_STATE_TEST(3u), NINE_HITS, 26, GVZ_REFUSAL_BEYOND_REPAIR, GVZ_EVENT_REFUSED, GVZ_STATE_TEST(3u));
+    expect_follow("5 bytes", GVZ_STATE_REAL(2u), ALL_AREAS, 5, GVZ_REFUSAL_WRONG_LENGTH, GVZ_EVENT_REFUSED, GVZ_STATE_REAL(2u));
     expect_follow("a state of no number", 3u, ALL_AREAS, 26, 0, GVZ_EVENT_BEGINS, GVZ_STATE_REAL(0u));
-    expect_follow("a large state", 0xFFFFFFFFu, NINE_HITS, 26, GVZ_BEYOND_REPAIR, GVZ_EVENT_REFUSED, GVZ_STATE_QUIET);
+    expect_follow("a large state", 0xFFFFFFFFu, NINE_HITS, 26, GVZ_REFUSAL_BEYOND_REPAIR, GVZ_EVENT_REFUSED, GVZ_STATE_QUIET);
 }
 
 static void expect_capture(const char *what, const uint8_t *main_capture, size_t main_len, const uint8_t *spare_capture, size_t spare_len,
     uint64_t n, uint32_t main_number, uint32_t spare_number, uint32_t source)
 {
     uint32_t numbers = gvz_capture_numbers(main_capture, main_len, spare_capture, spare_len, n);
-    expect(what, GVZ_MAIN_NUMBER(numbers) == main_number && GVZ_SPARE_NUMBER(numbers) == spare_number
+    expect(what, GVZ_MAIN_REFUSAL(numbers) == main_number && GVZ_SPARE_REFUSAL(numbers) == spare_number
         && gvz_capture_source(main_capture, main_len, spare_capture, spare_len, n) == source);
 }
 
@@ -295,14 +334,14 @@ static void test_captures(void)
     memcpy(spare_capture + 26, frame_of(PLACE), GVZ_FRAME_BYTES);
     memcpy(spare_capture + 52, frame_of(CLEAN_WRONG_CRC), GVZ_FRAME_BYTES);
 
-    expect_capture("main", main_capture, 78, spare_capture, 78, 0, 0, GVZ_FRAME_CRC, GVZ_MAIN);
-    expect_capture("spare", main_capture, 78, spare_capture, 78, 1, GVZ_BEYOND_REPAIR, 0, GVZ_SPARE);
-    expect_capture("neither", main_capture, 78, spare_capture, 78, 2, GVZ_NO_PATTERN, GVZ_FRAME_CRC, GVZ_NEITHER);
-    expect_capture("a main capture of 51 bytes", main_capture, 51, spare_capture, 52, 1, GVZ_WRONG_LENGTH, 0, GVZ_SPARE);
-    expect_capture("empty captures", main_capture, 0, spare_capture, 0, 0, GVZ_WRONG_LENGTH, GVZ_WRONG_LENGTH, GVZ_NEITHER);
-    expect_capture("26 n past 64 bits", main_capture, 78, spare_capture, 78, UINT64_C(1) << 63, GVZ_WRONG_LENGTH, GVZ_WRONG_LENGTH,
-        GVZ_NEITHER);
-    expect_capture("the largest n", main_capture, 78, spare_capture, 78, UINT64_MAX, GVZ_WRONG_LENGTH, GVZ_WRONG_LENGTH, GVZ_NEITHER);
+    expect_capture("main", main_capture, 78, spare_capture, 78, 0, 0, GVZ_REFUSAL_FRAME_CRC, GVZ_TUNER_MAIN);
+    expect_capture("spare", main_capture, 78, spare_capture, 78, 1, GVZ_REFUSAL_BEYOND_REPAIR, 0, GVZ_TUNER_SPARE);
+    expect_capture("neither", main_capture, 78, spare_capture, 78, 2, GVZ_REFUSAL_NO_PATTERN, GVZ_REFUSAL_FRAME_CRC, GVZ_TUNER_NEITHER);
+    expect_capture("a main capture of 51 bytes", main_capture, 51, spare_capture, 52, 1, GVZ_REFUSAL_WRONG_LENGTH, 0, GVZ_TUNER_SPARE);
+    expect_capture("empty captures", main_capture, 0, spare_capture, 0, 0, GVZ_REFUSAL_WRONG_LENGTH, GVZ_REFUSAL_WRONG_LENGTH, GVZ_TUNER_NEITHER);
+    expect_capture("26 n past 64 bits", main_capture, 78, spare_capture, 78, UINT64_C(1) << 63, GVZ_REFUSAL_WRONG_LENGTH, GVZ_REFUSAL_WRONG_LENGTH,
+        GVZ_TUNER_NEITHER);
+    expect_capture("the largest n", main_capture, 78, spare_capture, 78, UINT64_MAX, GVZ_REFUSAL_WRONG_LENGTH, GVZ_REFUSAL_WRONG_LENGTH, GVZ_TUNER_NEITHER);
 }
 
 /* ---- The cable header */
@@ -310,7 +349,7 @@ static void test_captures(void)
 /* All streams valid, with the identifiers (i, 1) for stream i, empty slots and no frame. */
 static void model_record(uint64_t *record)
 {
-    memset(record, 0, GVZ_HEADER_VALUES * sizeof(uint64_t));
+    memset(record, 0, GVZ_CABLE_VALUES * sizeof(uint64_t));
     record[GVZ_HEADER_PACKET] = 0x47000000;
     record[GVZ_HEADER_FORM] = 1;
     for (int i = 0; i < 15; i++) {
@@ -326,7 +365,7 @@ static void model_record(uint64_t *record)
 /* The same as bytes, with this CRC. */
 static void model_header(uint8_t *header, uint32_t crc)
 {
-    memset(header, 0, GVZ_HEADER_BYTES);
+    memset(header, 0, GVZ_CABLE_BYTES);
     header[0] = 0x47;
     header[6] = 0x01;
     header[7] = 0xFF;
@@ -344,94 +383,94 @@ static void model_header(uint8_t *header, uint32_t crc)
 static void expect_header_read(const char *what, const uint8_t *header, size_t header_len, size_t record_len, uint32_t status,
     const uint64_t *record)
 {
-    uint64_t left[GVZ_HEADER_VALUES + 1], expected[GVZ_HEADER_VALUES + 1];
-    for (int i = 0; i <= GVZ_HEADER_VALUES; i++) {
+    uint64_t left[GVZ_CABLE_VALUES + 1], expected[GVZ_CABLE_VALUES + 1];
+    for (int i = 0; i <= GVZ_CABLE_VALUES; i++) {
         left[i] = 7;
-        expected[i] = record != NULL && i < GVZ_HEADER_VALUES ? record[i] : 7;
+        expected[i] = record != NULL && i < GVZ_CABLE_VALUES ? record[i] : 7;
     }
     expect_left(what, gvz_header_read(header, header_len, left, record_len), status, left, expected, sizeof left);
 }
 
 static void test_header_read(void)
 {
-    uint8_t header[GVZ_HEADER_BYTES + 1] = {0};
-    uint64_t record[GVZ_HEADER_VALUES];
+    uint8_t header[GVZ_CABLE_BYTES + 1] = {0};
+    uint64_t record[GVZ_CABLE_VALUES];
     model_record(record);
     model_header(header, 0xE760A571);
 
     expect_header_read("the model header", header, 188, 145, 0, record);
-    expect_header_read("a header of 187", header, 187, 145, GVZ_WRONG_LENGTH, NULL);
-    expect_header_read("a header of 189", header, 189, 145, GVZ_WRONG_LENGTH, NULL);
-    expect_header_read("a record of 144", header, 188, 144, GVZ_WRONG_LENGTH, NULL);
-    expect_header_read("a record of 146", header, 188, 146, GVZ_WRONG_LENGTH, NULL);
+    expect_header_read("a header of 187", header, 187, 145, GVZ_REFUSAL_WRONG_LENGTH, NULL);
+    expect_header_read("a header of 189", header, 189, 145, GVZ_REFUSAL_WRONG_LENGTH, NULL);
+    expect_header_read("a record of 144", header, 188, 144, GVZ_REFUSAL_WRONG_LENGTH, NULL);
+    expect_header_read("a record of 146", header, 188, 146, GVZ_REFUSAL_WRONG_LENGTH, NULL);
     header[3] = 0x12;
     record[GVZ_HEADER_PACKET] = 0x47000012;
     expect_header_read("the CRC begins after byte 3", header, 188, 145, 0, record);
     header[187] ^= 1;
-    expect_header_read("CRC", header, 188, 145, GVZ_HEADER_CRC, NULL);
+    expect_header_read("CRC", header, 188, 145, GVZ_REFUSAL_HEADER_CRC, NULL);
     header[0] = 0x46;
-    expect_header_read("byte 0, before the CRC", header, 188, 145, GVZ_HEADER_SYNC, NULL);
+    expect_header_read("byte 0, before the CRC", header, 188, 145, GVZ_REFUSAL_PACKET_SYNC, NULL);
     model_header(header, 0xA94B8658);
     header[6] = 0x02;
-    expect_header_read("form 2", header, 188, 145, GVZ_MULTIPLEX_FORM, NULL);
-    expect_header_read("a record of 144, before the header", header, 188, 144, GVZ_WRONG_LENGTH, NULL);
+    expect_header_read("form 2", header, 188, 145, GVZ_REFUSAL_MULTIPLEX_FORM, NULL);
+    expect_header_read("a record of 144, before the header", header, 188, 144, GVZ_REFUSAL_WRONG_LENGTH, NULL);
     /* a reception state of 11, and the CRC that belongs to it */
     model_header(header, 0x242CB9D2);
     header[69] = 0xC0;
-    expect_header_read("reception state 11", header, 188, 145, GVZ_HEADER_BITS, NULL);
+    expect_header_read("reception state 11", header, 188, 145, GVZ_REFUSAL_HEADER_BITS, NULL);
 }
 
 /* The model record with one field changed, written into 190 bytes that hold 0xA5. */
 static void expect_header_write(const char *what, int field, uint64_t value, size_t record_len, size_t header_len, uint32_t status,
     const uint8_t *header)
 {
-    uint64_t record[GVZ_HEADER_VALUES + 1] = {0};
+    uint64_t record[GVZ_CABLE_VALUES + 1] = {0};
     uint8_t left[190], expected[190];
     model_record(record);
     record[field] = value;
     memset(left, 0xA5, sizeof left);
     memset(expected, 0xA5, sizeof expected);
     if (header != NULL) {
-        memcpy(expected, header, GVZ_HEADER_BYTES);
+        memcpy(expected, header, GVZ_CABLE_BYTES);
     }
     expect_left(what, gvz_header_write(record, record_len, left, header_len), status, left, expected, sizeof left);
 }
 
 static void test_header_write(void)
 {
-    uint8_t header[GVZ_HEADER_BYTES];
+    uint8_t header[GVZ_CABLE_BYTES];
     model_header(header, 0xE760A571);
 
     expect_header_write("the model header", GVZ_HEADER_FORM, 1, 145, 188, 0, header);
-    expect_header_write("slot value 16", GVZ_HEADER_SLOTS + 51, 16, 145, 188, GVZ_FIELD, NULL);
-    expect_header_write("form 16", GVZ_HEADER_FORM, 16, 145, 188, GVZ_FIELD, NULL);
-    expect_header_write("byte 0", GVZ_HEADER_PACKET, 0x46000000, 145, 188, GVZ_HEADER_SYNC, NULL);
-    expect_header_write("form 15", GVZ_HEADER_FORM, 15, 145, 188, GVZ_MULTIPLEX_FORM, NULL);
-    expect_header_write("reception state 3", GVZ_HEADER_STATES + 14, 3, 145, 188, GVZ_HEADER_BITS, NULL);
-    expect_header_write("a buffer of 187", GVZ_HEADER_FORM, 1, 145, 187, GVZ_WRONG_LENGTH, NULL);
-    expect_header_write("a buffer of 189, before the record", GVZ_HEADER_FORM, 9, 145, 189, GVZ_WRONG_LENGTH, NULL);
-    expect_header_write("a record of 144", GVZ_HEADER_FORM, 1, 144, 188, GVZ_WRONG_LENGTH, NULL);
-    expect_header_write("a record of 146", GVZ_HEADER_FORM, 1, 146, 188, GVZ_WRONG_LENGTH, NULL);
+    expect_header_write("slot value 16", GVZ_HEADER_SLOTS + 51, 16, 145, 188, GVZ_REFUSAL_FIELD, NULL);
+    expect_header_write("form 16", GVZ_HEADER_FORM, 16, 145, 188, GVZ_REFUSAL_FIELD, NULL);
+    expect_header_write("byte 0", GVZ_HEADER_PACKET, 0x46000000, 145, 188, GVZ_REFUSAL_PACKET_SYNC, NULL);
+    expect_header_write("form 15", GVZ_HEADER_FORM, 15, 145, 188, GVZ_REFUSAL_MULTIPLEX_FORM, NULL);
+    expect_header_write("reception state 3", GVZ_HEADER_STATES + 14, 3, 145, 188, GVZ_REFUSAL_HEADER_BITS, NULL);
+    expect_header_write("a buffer of 187", GVZ_HEADER_FORM, 1, 145, 187, GVZ_REFUSAL_WRONG_LENGTH, NULL);
+    expect_header_write("a buffer of 189, before the record", GVZ_HEADER_FORM, 9, 145, 189, GVZ_REFUSAL_WRONG_LENGTH, NULL);
+    expect_header_write("a record of 144", GVZ_HEADER_FORM, 1, 144, 188, GVZ_REFUSAL_WRONG_LENGTH, NULL);
+    expect_header_write("a record of 146", GVZ_HEADER_FORM, 1, 146, 188, GVZ_REFUSAL_WRONG_LENGTH, NULL);
 }
 
 static void expect_lay_in(const char *what, const uint8_t *before, size_t header_len, const char *digits, size_t frame_len,
     uint32_t status, const uint8_t *after)
 {
-    uint8_t header[GVZ_HEADER_BYTES];
+    uint8_t header[GVZ_CABLE_BYTES];
     memcpy(header, before, sizeof header);
     expect_left(what, gvz_lay_in(header, header_len, frame_of(digits), frame_len), status, header, after, sizeof header);
 }
 
 static void expect_take_out(const char *what, const uint8_t *before, size_t header_len, uint32_t status, const uint8_t *after)
 {
-    uint8_t header[GVZ_HEADER_BYTES];
+    uint8_t header[GVZ_CABLE_BYTES];
     memcpy(header, before, sizeof header);
     expect_left(what, gvz_take_out(header, header_len), status, header, after, sizeof header);
 }
 
 static void test_laying(void)
 {
-    uint8_t empty[GVZ_HEADER_BYTES], laid[GVZ_HEADER_BYTES], broken[GVZ_HEADER_BYTES];
+    uint8_t empty[GVZ_CABLE_BYTES], laid[GVZ_CABLE_BYTES], broken[GVZ_CABLE_BYTES];
     model_header(empty, 0xE760A571);
     model_header(laid, 0xB0AC5A53);
     memcpy(laid + 99, frame_of(ALL_AREAS), 25);
@@ -441,21 +480,21 @@ static void test_laying(void)
     expect_lay_in("all areas", empty, 188, ALL_AREAS, 26, 0, laid);
     expect_lay_in("one hit is repaired", empty, 188, ONE_HIT, 26, 0, laid);
     expect_lay_in("laid in twice", laid, 188, ALL_AREAS, 26, 0, laid);
-    expect_lay_in("nine hits", empty, 188, NINE_HITS, 26, GVZ_BEYOND_REPAIR, empty);
-    expect_lay_in("a frame of 25", empty, 188, ALL_AREAS, 25, GVZ_WRONG_LENGTH, empty);
-    expect_lay_in("a header of 187", empty, 187, ALL_AREAS, 26, GVZ_WRONG_LENGTH, empty);
-    expect_lay_in("the header before the frame", broken, 188, ALL_AREAS, 0, GVZ_HEADER_CRC, broken);
+    expect_lay_in("nine hits", empty, 188, NINE_HITS, 26, GVZ_REFUSAL_BEYOND_REPAIR, empty);
+    expect_lay_in("a frame of 25", empty, 188, ALL_AREAS, 25, GVZ_REFUSAL_WRONG_LENGTH, empty);
+    expect_lay_in("a header of 187", empty, 187, ALL_AREAS, 26, GVZ_REFUSAL_WRONG_LENGTH, empty);
+    expect_lay_in("the header before the frame", broken, 188, ALL_AREAS, 0, GVZ_REFUSAL_HEADER_CRC, broken);
 
     expect_take_out("taken out", laid, 188, 0, empty);
     expect_take_out("taken out of an empty one", empty, 188, 0, empty);
-    expect_take_out("a wrong CRC", broken, 188, GVZ_HEADER_CRC, broken);
-    expect_take_out("a header of 187", laid, 187, GVZ_WRONG_LENGTH, laid);
+    expect_take_out("a wrong CRC", broken, 188, GVZ_REFUSAL_HEADER_CRC, broken);
+    expect_take_out("a header of 187", laid, 187, GVZ_REFUSAL_WRONG_LENGTH, laid);
 }
 
 static void test_crc32(void)
 {
     static const uint8_t digits[] = "123456789";
-    uint8_t header[GVZ_HEADER_BYTES];
+    uint8_t header[GVZ_CABLE_BYTES];
     model_header(header, 0xE760A571);
 
     expect("the published check value", gvz_crc32(digits, 9) == 0x0376E6E7);
@@ -464,11 +503,43 @@ static void test_crc32(void)
     expect("with its own CRC it comes out zero", gvz_crc32(header + 4, 184) == 0);
 }
 
+/* ---- NULL beside the length 0, as an empty vector hands it over */
+
+static void test_null(void)
+{
+    uint8_t word[GVZ_FRAME_BYTES] = {0}, header[GVZ_CABLE_BYTES];
+    const uint8_t *frame = frame_of(ALL_AREAS);
+    uint64_t record[GVZ_FRAME_VALUES] = {0}, values[GVZ_CABLE_VALUES];
+    double place[GVZ_PLACE_VALUES] = {0};
+    const uint32_t wrong_length = GVZ_REFUSAL_WRONG_LENGTH;
+    model_header(header, 0xE760A571);
+    model_record(values);
+
+    expect("no frame to repair", gvz_repair(NULL, 0, word, 26) == wrong_length && gvz_repair_register(NULL, 0, word, 26) == wrong_length);
+    expect("no word", gvz_repair(frame, 26, NULL, 0) == wrong_length && gvz_repair_register(frame, 26, NULL, 0) == wrong_length);
+    expect("no frame to read", gvz_frame_read(NULL, 0, record, 18) == wrong_length && gvz_frame_read(frame, 26, NULL, 0) == wrong_length);
+    expect("nothing at all", gvz_frame_read(NULL, 0, NULL, 0) == wrong_length);
+    expect("no record to write", gvz_frame_write(NULL, 0, word, 26) == wrong_length && gvz_frame_write(record, 18, NULL, 0) == wrong_length);
+    expect("no record to ask", gvz_warned(NULL, 0, 15) == wrong_length);
+    expect("no record to report", gvz_report(NULL, 0, place, 3) == wrong_length && gvz_report(record, 18, NULL, 0) == wrong_length);
+    expect("no fields", gvz_desk(35.6, 139.7, 40.0, NULL, 0) == wrong_length);
+    expect("no frame to follow", gvz_follow(GVZ_STATE_REAL(2u), NULL, 0) == 1 + (GVZ_EVENT_REFUSED << 8) + (GVZ_STATE_REAL(2u) << 16));
+    expect("no main capture", gvz_capture_source(NULL, 0, frame, 26, 0) == GVZ_TUNER_SPARE);
+    expect("no spare capture", gvz_capture_source(frame, 26, NULL, 0, 0) == GVZ_TUNER_MAIN);
+    expect("no capture", gvz_capture_source(NULL, 0, NULL, 0, 0) == GVZ_TUNER_NEITHER && gvz_capture_numbers(NULL, 0, NULL, 0, 0) == 257);
+    expect("no header to read", gvz_header_read(NULL, 0, values, 145) == wrong_length && gvz_header_read(header, 188, NULL, 0) == wrong_length);
+    expect("no header to write", gvz_header_write(NULL, 0, header, 188) == wrong_length && gvz_header_write(values, 145, NULL, 0) == wrong_length);
+    expect("no header to lay into", gvz_lay_in(NULL, 0, frame, 26) == wrong_length && gvz_lay_in(header, 188, NULL, 0) == wrong_length);
+    expect("no header to take out of", gvz_take_out(NULL, 0) == wrong_length);
+    expect("no bytes", gvz_crc32(NULL, 0) == 0xFFFFFFFF);
+}
+
 int main(void)
 {
     test_repair();
     test_frame_read();
     test_frame_write();
+    test_warned();
     test_report();
     test_desk();
     test_follow();
@@ -477,6 +548,7 @@ int main(void)
     test_header_write();
     test_laying();
     test_crc32();
+    test_null();
     if (failures == 0) {
         printf("c: all answers are as expected\n");
     }

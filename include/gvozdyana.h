@@ -1,12 +1,16 @@
-/* Gvozdyana: the exported functions of the archive libcapi.a.
+/* Gvozdyana: the exported functions of the archive libgvozdyana.a.
  *
- * Each takes any numbers and any bytes. A slice is a pointer and a length, the number of its elements. A pointer is not NULL, not even
- * beside the length 0; it is good for as many elements as the length says; and what a function writes overlaps nothing else that it is
- * handed.
+ * Each function takes any numbers and any bytes, answers and stops. A slice is a pointer and a length, the number
+ * of its elements. The pointer is good for as many elements as the length says; beside the length 0 it may be NULL.
+ * What a function writes overlaps nothing else that it is handed.
  *
- * Each but gvz_crc32 returns a status: the refusal's number in the low 8 bits, 0 where nothing was refused, and above them what else it tells.
- * A refusal leaves every buffer as it was. A record, place or word whose length is not the one given here is refused with 1 before anything else is
- * looked at; frames and headers of another length get their 1 where document 01 tests it.
+ * Most functions return a status: the refusal's number in the low 8 bits, GVZ_REFUSAL(status), 0 where nothing was
+ * refused, and above them what else the function tells. gvz_capture_source, gvz_capture_numbers and gvz_crc32
+ * refuse nothing and return something else; what is said beside each function holds.
+ *
+ * A refusal tells its number alone, and leaves every buffer as it was. Refusal 1 is also given for a record, word,
+ * place or field buffer of another length than the one named here, before anything else is looked at. Frames and
+ * headers of another length get their 1 where document 01 tests it.
  */
 #ifndef GVOZDYANA_H
 #define GVOZDYANA_H
@@ -18,94 +22,147 @@
 extern "C" {
 #endif
 
-/* The refusals, by their numbers. */
+#define GVZ_VERSION_MAJOR 0
+#define GVZ_VERSION_MINOR 2
+#define GVZ_VERSION_PATCH 0
+#define GVZ_VERSION "0.2.0"
+
+/* ---- Refusals */
+
+/* Document 01's refusals, by their numbers. */
 enum gvz_refusal {
-    /* a frame is not 26 bytes, a header is not 188, or a frame number is past the capture */
-    GVZ_WRONG_LENGTH = 1,
+    GVZ_REFUSAL_NONE = 0,
+    /* a frame is not 26 bytes, a header is not 188, a frame number is past the capture, or a buffer has another
+     * length than the one named beside the function */
+    GVZ_REFUSAL_WRONG_LENGTH = 1,
     /* a filler bit is 1 */
-    GVZ_FILLER_SET = 2,
+    GVZ_REFUSAL_FILLER_SET = 2,
     /* B1 to B16 are neither pattern */
-    GVZ_NO_PATTERN = 3,
+    GVZ_REFUSAL_NO_PATTERN = 3,
     /* no code word lies within eight places */
-    GVZ_BEYOND_REPAIR = 4,
+    GVZ_REFUSAL_BEYOND_REPAIR = 4,
     /* the CRC differs, in the repaired word */
-    GVZ_FRAME_CRC = 5,
+    GVZ_REFUSAL_FRAME_CRC = 5,
     /* the identification is 4, 5 or 6, or above 7 in a record */
-    GVZ_IDENTIFICATION = 6,
+    GVZ_REFUSAL_IDENTIFICATION = 6,
     /* start/end or update is not as the identification asks */
-    GVZ_START_END_OR_UPDATE = 7,
+    GVZ_REFUSAL_START_END_OR_UPDATE = 7,
     /* a bit fixed at 1 is 0 */
-    GVZ_FIXED_BIT = 8,
-    /* page 1, kind 0: latitude or longitude is over its limit */
-    GVZ_OVER_LIMIT = 9,
+    GVZ_REFUSAL_FIXED_BIT = 8,
+    /* page 1, kind 0: latitude is over 900 tenths, or longitude over 1800 */
+    GVZ_REFUSAL_OVER_LIMIT = 9,
     /* a record to be written has a field wider than its place, or not 0 where none is left free */
-    GVZ_FIELD = 10,
+    GVZ_REFUSAL_FIELD = 10,
     /* a double is no field value's image */
-    GVZ_NO_IMAGE = 11,
+    GVZ_REFUSAL_NO_IMAGE = 11,
     /* header byte 0 is not 0x47 */
-    GVZ_HEADER_SYNC = 12,
+    GVZ_REFUSAL_PACKET_SYNC = 12,
     /* the header's CRC does not come out zero */
-    GVZ_HEADER_CRC = 13,
+    GVZ_REFUSAL_HEADER_CRC = 13,
     /* the multiplex form is not 0x1 */
-    GVZ_MULTIPLEX_FORM = 14,
+    GVZ_REFUSAL_MULTIPLEX_FORM = 14,
     /* a header bit fixed at 1 is 0, or a reception state is 11 */
-    GVZ_HEADER_BITS = 15
+    GVZ_REFUSAL_HEADER_BITS = 15
 };
 
-/* The refusal's number of a status, 0 where nothing was refused. */
-#define GVZ_NUMBER(status) ((status) & 255u)
+/* The refusal of a status, an enum gvz_refusal: 0 where nothing was refused. */
+#define GVZ_REFUSAL(status) ((status) & 255u)
 
 /* ---- The warning frame */
 
+/* The bytes of a frame, and the values of its record. */
 #define GVZ_FRAME_BYTES 26
-#define GVZ_RECORD_VALUES 18
+#define GVZ_FRAME_VALUES 18
 
-/* The repaired places of a status of gvz_repair, gvz_repair_register and gvz_frame_read. */
-#define GVZ_PLACES(status) ((status) >> 8)
+/* Areas are numbered from 0 to GVZ_AREAS - 1, in the order of the notice's schedule 2; 15 is Tokyo. */
+#define GVZ_AREAS 56
 
-/* Where the fields stand in a record of GVZ_RECORD_VALUES. A field that identification, page and kind do not leave free is 0. */
+/* The repaired places, 0 to 8, of a status of gvz_repair, gvz_repair_register and gvz_frame_read. */
+#define GVZ_REPAIRED(status) ((status) >> 8)
+
+/* Whether the area is warned, 1 or 0, of a status of gvz_warned. */
+#define GVZ_WARNED(status) ((status) >> 8)
+
+/* What a frame announces, record[GVZ_RECORD_IDENTIFICATION]. 4, 5 and 6 are undefined, and refused. */
+enum gvz_identification {
+    GVZ_IDENTIFICATION_WARNING_WITH_AREA = 0,
+    GVZ_IDENTIFICATION_WARNING_WITHOUT_AREA = 1,
+    GVZ_IDENTIFICATION_TEST_WITH_AREA = 2,
+    GVZ_IDENTIFICATION_TEST_WITHOUT_AREA = 3,
+    GVZ_IDENTIFICATION_NO_INFORMATION = 7
+};
+
+/* Where the fields stand in a record of GVZ_FRAME_VALUES, and how many bits each has. A field that identification,
+ * page and kind do not leave free is 0: a record of zeros is a warning for ALL areas. */
 enum gvz_record_index {
-    GVZ_RECORD_REFERENCE = 0, /* B0 */
+    /* 1 bit: B0, the differential reference, carried as it stands */
+    GVZ_RECORD_REFERENCE = 0,
+    /* 1 bit: 0 for the pattern 0011010111101110 in B1 to B16, 1 for its complement */
     GVZ_RECORD_PATTERN = 1,
+    /* 3 bits: an enum gvz_identification */
     GVZ_RECORD_IDENTIFICATION = 2,
+    /* 2 bits: goes 0, 1, 2, 3 and back to 0, so that the greater one is not the newer one (gvz_follow) */
     GVZ_RECORD_UPDATE = 3,
+    /* 31 bits: the current time, a plain number that is carried as it stands */
     GVZ_RECORD_TIME = 4,
+    /* 1 bit: 0 for areas, 1 for a place or a cancellation */
     GVZ_RECORD_PAGE = 5,
-    GVZ_RECORD_AREAS = 6, /* B56 to B111, B56 highest; 0 means warned */
+    /* 56 bits: area 0 highest, and 0 MEANS WARNED. It means something only on page 0 of identification 0 to 3;
+     * elsewhere it is 0 and nobody is warned. Ask gvz_warned, which looks at all of that. */
+    GVZ_RECORD_AREAS = 6,
+    /* The rest but the last: page 1 of identification 0 to 3 alone. */
+    /* 1 bit: how many places are being sent, 0 for one and 1 for two */
     GVZ_RECORD_TOTAL = 7,
+    /* 1 bit: which of them this is */
     GVZ_RECORD_ITEM = 8,
+    /* 9 bits: the warning number */
     GVZ_RECORD_NUMBER = 9,
+    /* 1 bit: 0 for a place, 1 for a cancellation, which leaves the six after it 0 */
     GVZ_RECORD_KIND = 10,
+    /* 1 bit: 0 north, 1 south */
     GVZ_RECORD_SOUTH = 11,
+    /* 10 bits: tenths of a degree, 0 to 900 */
     GVZ_RECORD_LATITUDE = 12,
+    /* 1 bit: 0 east, 1 west */
     GVZ_RECORD_WEST = 13,
+    /* 11 bits: tenths of a degree, 0 to 1800 */
     GVZ_RECORD_LONGITUDE = 14,
+    /* 10 bits: kilometres */
     GVZ_RECORD_DEPTH = 15,
+    /* 10 bits: the time of occurrence, a plain number that is carried as it stands */
     GVZ_RECORD_OCCURRED = 16,
+    /* 11 bits: the broadcaster number, of identification 7 alone */
     GVZ_RECORD_BROADCASTER = 17
 };
 
-/* The repair asked for alone: looks at B17 to B203 of the frame, and refuses 1, then 4. Repaired, word, of GVZ_FRAME_BYTES, holds the code
- * word within eight places, B17 to B203 at their places and 0 elsewhere. Tells the repaired places. A code word hit in up to eight places comes
- * back as it was sent; hit in nine it is refused 4; from ten hits on it is refused 4, or the word is another one, and hits and repaired places
- * make at least 18 together. */
+/* The repair asked for alone: looks at B17 to B203 of the frame. Returns a status: refuses 1, then 4; tells the
+ * repaired places. Repaired, word, of GVZ_FRAME_BYTES, holds the code word within eight places, B17 to B203 at their
+ * places and 0 elsewhere. A code word hit in up to eight places comes back as it was sent; hit in nine it is refused
+ * 4; from ten hits on it is refused 4, or the word is another one, and hits and repaired places make at least 18
+ * together. */
 uint32_t gvz_repair(const uint8_t *frame, size_t frame_len, uint8_t *word, size_t word_len);
 
-/* The same answers by a second engine, which divides by a shift register bit by bit: slow, for comparison. */
+/* Returns the same by a second engine, which divides by a shift register bit by bit: slow, for comparison. */
 uint32_t gvz_repair_register(const uint8_t *frame, size_t frame_len, uint8_t *word, size_t word_len);
 
-/* Reads a frame into a record of GVZ_RECORD_VALUES. Refuses 1 to 9. Tells the repaired places. */
+/* Reads a frame into a record of GVZ_FRAME_VALUES. Returns a status: refuses 1 to 9; tells the repaired places. */
 uint32_t gvz_frame_read(const uint8_t *frame, size_t frame_len, uint64_t *record, size_t record_len);
 
-/* Writes a record of GVZ_RECORD_VALUES into a frame of GVZ_FRAME_BYTES. Refuses 1, then 6, 10, 9. */
+/* Writes a record of GVZ_FRAME_VALUES into a frame of GVZ_FRAME_BYTES. Returns a status: refuses 1, then 6, 10, 9;
+ * tells nothing. */
 uint32_t gvz_frame_write(const uint64_t *record, size_t record_len, uint8_t *frame, size_t frame_len);
+
+/* Whether a record of GVZ_FRAME_VALUES warns an area: identification 0 to 3, page 0, and the area's bit is 0. Returns
+ * a status: refuses 1 for a record of another length, and nothing else; tells GVZ_WARNED, which is 0 for an area
+ * above 55. */
+uint32_t gvz_warned(const uint64_t *record, size_t record_len, uint64_t area);
 
 /* ---- The place in degrees */
 
 #define GVZ_PLACE_VALUES 3
 #define GVZ_DESK_VALUES 5
 
-/* The case of a status of gvz_report. */
+/* The case of a status of gvz_report, an enum gvz_report_case. */
 #define GVZ_REPORT_CASE(status) ((status) >> 8)
 
 enum gvz_report_case {
@@ -115,12 +172,29 @@ enum gvz_report_case {
     GVZ_REPORT_AREAS_ONLY = 3
 };
 
-/* What a record of GVZ_RECORD_VALUES reports. Refuses 6, 10 or 9, as the writer does. Tells the case; a place alone is written, into
- * GVZ_PLACE_VALUES doubles: latitude and longitude in degrees, negative for south and west, and depth in kilometres. */
+/* Where the doubles of a place stand. */
+enum gvz_place_index {
+    GVZ_PLACE_LATITUDE = 0,  /* degrees, negative for south; minus zero is a southern 0 */
+    GVZ_PLACE_LONGITUDE = 1, /* degrees, negative for west */
+    GVZ_PLACE_DEPTH = 2      /* kilometres */
+};
+
+/* Where the desk's field values stand: units and widths are those of the record's fields of the same names. */
+enum gvz_desk_index {
+    GVZ_DESK_SOUTH = 0,
+    GVZ_DESK_LATITUDE = 1,
+    GVZ_DESK_WEST = 2,
+    GVZ_DESK_LONGITUDE = 3,
+    GVZ_DESK_DEPTH = 4
+};
+
+/* What a record of GVZ_FRAME_VALUES reports. Returns a status: refuses 6, 10 or 9, as the writer does; tells the
+ * case. GVZ_PLACE_VALUES doubles are written for a place alone. */
 uint32_t gvz_report(const uint64_t *record, size_t record_len, double *place, size_t place_len);
 
-/* The desk's place as GVZ_DESK_VALUES field values: south, latitude, west, longitude, depth. Refuses 11 unless each double has the very
- * bits of an allowed field value's image. */
+/* The desk's place as GVZ_DESK_VALUES field values. Returns a status: refuses 11 unless each double has the very bits
+ * of an allowed field value's image (latitude 0 to 900 tenths, longitude 0 to 1800, both signs; depth 0 to 1023);
+ * tells nothing. */
 uint32_t gvz_desk(double latitude, double longitude, double depth, uint64_t *fields, size_t fields_len);
 
 /* ---- Following the update number */
@@ -130,7 +204,7 @@ uint32_t gvz_desk(double latitude, double longitude, double depth, uint64_t *fie
 #define GVZ_STATE_REAL(u) (4u + (u))
 #define GVZ_STATE_TEST(u) (8u + (u))
 
-/* The event and the new state's number of a status of gvz_follow. */
+/* The event, an enum gvz_event, and the new state's number of a status of gvz_follow. */
 #define GVZ_EVENT(status) ((status) >> 8 & 255u)
 #define GVZ_STATE(status) ((status) >> 16)
 
@@ -144,63 +218,76 @@ enum gvz_event {
     GVZ_EVENT_REFUSED = 6
 };
 
-/* One step of the follower, from the state with this number. Refuses 1 to 9, and the state then stays. Tells the event and the new
- * state's number. */
+/* One step of the follower, from the state with this number. Returns a status: refuses 1 to 9; tells the event and
+ * the new state's number, at a refusal too: then the event is GVZ_EVENT_REFUSED and the state is the old one, which
+ * is GVZ_STATE_QUIET where the number handed in is that of no state. Begin with GVZ_STATE_QUIET, and with it again
+ * after a reset. */
 uint32_t gvz_follow(uint32_t state, const uint8_t *frame, size_t frame_len);
 
 /* ---- Two tuners */
 
-/* The two numbers of a status of gvz_capture_numbers. */
-#define GVZ_MAIN_NUMBER(status) ((status) & 255u)
-#define GVZ_SPARE_NUMBER(status) ((status) >> 8)
-
 enum gvz_tuner {
-    GVZ_NEITHER = 0,
-    GVZ_MAIN = 1,
-    GVZ_SPARE = 2
+    GVZ_TUNER_NEITHER = 0,
+    GVZ_TUNER_MAIN = 1,
+    GVZ_TUNER_SPARE = 2
 };
 
-/* Which capture frame n is taken from, as an enum gvz_tuner: its bytes are the 26 from byte 26 n on. Captures have any length. */
-uint32_t gvz_capture_source(const uint8_t *main_capture, size_t main_len, const uint8_t *spare_capture, size_t spare_len, uint64_t n);
+/* Which capture frame n, counted from 0, is taken from: main if it is accepted there, otherwise spare if it is
+ * accepted there. Returns an enum gvz_tuner and no status. The frame's bytes are the 26 from byte 26 n on of that
+ * capture, as received. Captures have any length, and a frame number past a capture is not accepted there. */
+uint32_t gvz_capture_source(const uint8_t *main_capture, size_t main_len, const uint8_t *spare_capture, size_t spare_len,
+    uint64_t n);
 
-/* The refusals' numbers of frame n in both captures, 0 for accepted; a frame number past a capture is 1 there. */
-uint32_t gvz_capture_numbers(const uint8_t *main_capture, size_t main_len, const uint8_t *spare_capture, size_t spare_len, uint64_t n);
+/* What frame n is refused for in both captures, 0 for accepted; a frame number past a capture is 1 there. Returns the
+ * two numbers, GVZ_MAIN_REFUSAL and GVZ_SPARE_REFUSAL, and no status. */
+uint32_t gvz_capture_numbers(const uint8_t *main_capture, size_t main_len, const uint8_t *spare_capture, size_t spare_len,
+    uint64_t n);
+
+#define GVZ_MAIN_REFUSAL(numbers) ((numbers) & 255u)
+#define GVZ_SPARE_REFUSAL(numbers) ((numbers) >> 8)
 
 /* ---- The cable header */
 
-#define GVZ_HEADER_BYTES 188
-#define GVZ_HEADER_VALUES 145
+/* The bytes of a header, and the values of its record. */
+#define GVZ_CABLE_BYTES 188
+#define GVZ_CABLE_VALUES 145
 
-/* Where the fields stand in a header's record of GVZ_HEADER_VALUES. */
+/* Where the fields stand in a header's record of GVZ_CABLE_VALUES, and how many bits each has. Fixed bits and CRC are
+ * not in it. */
 enum gvz_header_index {
-    GVZ_HEADER_PACKET = 0, /* the packet header, byte 0 highest */
-    GVZ_HEADER_FRAME_SYNC = 1,
-    GVZ_HEADER_CHANGE = 2,
-    GVZ_HEADER_METHOD = 3,
-    GVZ_HEADER_FORM = 4,
-    GVZ_HEADER_VALID = 5,        /* streams 1 to 15 */
-    GVZ_HEADER_IDENTIFIERS = 20, /* stream id and network id of streams 1 to 15, in turn */
-    GVZ_HEADER_STATES = 50,      /* streams 1 to 15 */
-    GVZ_HEADER_CARRIED = 65,
-    GVZ_HEADER_EMERGENCY = 66,
-    GVZ_HEADER_SLOTS = 67, /* slots 2 to 53 */
-    GVZ_HEADER_AC = 119    /* the 204 AC bits: 25 bytes, then 4 bits */
+    GVZ_HEADER_PACKET = 0,       /* 32 bits: the packet header, byte 0 highest, which is 0x47 */
+    GVZ_HEADER_FRAME_SYNC = 1,   /* 16 bits: the multiplex frame's sync */
+    GVZ_HEADER_CHANGE = 2,       /* 3 bits: the change number */
+    GVZ_HEADER_METHOD = 3,       /* 1 bit */
+    GVZ_HEADER_FORM = 4,         /* 4 bits: the multiplex form, 0x1 */
+    GVZ_HEADER_VALID = 5,        /* 15 values of 1 bit: streams 1 to 15, 1 for valid */
+    GVZ_HEADER_IDENTIFIERS = 20, /* 30 values of 16 bits: stream id and original network id of streams 1 to 15, in turn */
+    GVZ_HEADER_STATES = 50,      /* 15 values of 2 bits: reception states of streams 1 to 15, 0 (best), 1 or 2 */
+    GVZ_HEADER_CARRIED = 65,     /* 1 bit: carried as it stands */
+    GVZ_HEADER_EMERGENCY = 66,   /* 1 bit: emergency start */
+    GVZ_HEADER_SLOTS = 67,       /* 52 values of 4 bits: the stream of slots 2 to 53, 0 for an empty one */
+    GVZ_HEADER_AC = 119          /* 25 values of 8 bits, 1 of 4: the AC frame's 204 bits; all ones when none is sent */
 };
 
-/* Reads a header into a record of GVZ_HEADER_VALUES. Refuses 1, 12, 13, 14, 15. */
+/* Reads a header of GVZ_CABLE_BYTES into a record of GVZ_CABLE_VALUES. Returns a status: refuses 1, 12, 13, 14, 15;
+ * tells nothing. */
 uint32_t gvz_header_read(const uint8_t *header, size_t header_len, uint64_t *record, size_t record_len);
 
-/* Writes a record of GVZ_HEADER_VALUES into a header of GVZ_HEADER_BYTES. Refuses 1, then 10, 12, 14, 15. */
+/* Writes a record of GVZ_CABLE_VALUES into a header of GVZ_CABLE_BYTES. Returns a status: refuses 1, then 10, 12, 14,
+ * 15; tells nothing. */
 uint32_t gvz_header_write(const uint64_t *record, size_t record_len, uint8_t *header, size_t header_len);
 
-/* Lays a frame, repaired, into a header, in place. Refuses the header as gvz_header_read does, then the frame as gvz_frame_read does. */
+/* Lays a frame, repaired, into a header, in place. Returns a status: refuses the header as gvz_header_read does, then
+ * the frame as gvz_frame_read does; tells nothing. */
 uint32_t gvz_lay_in(uint8_t *header, size_t header_len, const uint8_t *frame, size_t frame_len);
 
-/* Writes 204 ones instead of a header's frame, in place. Refuses as gvz_header_read does. */
+/* Writes 204 ones instead of a header's frame, in place. Returns a status: refuses as gvz_header_read does; tells
+ * nothing. */
 uint32_t gvz_take_out(uint8_t *header, size_t header_len);
 
-/* The CRC-32 of any bytes, as the header's is taken of bytes 4 to 183 (ITU-T H.222.0: polynomial 0x04C11DB7, register all ones at the start, nothing
- * reflected or inverted). Bytes that end in their own CRC, highest byte first, have the CRC 0. Returns the CRC, and refuses nothing. */
+/* The CRC-32 of any bytes, as the header's is taken of bytes 4 to 183 (ITU-T H.222.0: polynomial 0x04C11DB7, register
+ * all ones at the start, nothing reflected or inverted). Bytes that end in their own CRC, highest byte first, have
+ * the CRC 0. Returns the CRC and no status; refuses nothing. */
 uint32_t gvz_crc32(const uint8_t *bytes, size_t bytes_len);
 
 #ifdef __cplusplus
