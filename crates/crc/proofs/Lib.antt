@@ -4,3 +4,4 @@ pub mod Turn
 pub mod Group
 pub mod Crc
 pub mod Examples
+pub mod Promises

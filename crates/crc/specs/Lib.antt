@@ -1,3 +1,4 @@
 pub mod Crc
 pub mod Remainders
 pub mod Examples
+pub mod Promises
