@@ -216,6 +216,13 @@ static void test_warned(void)
 
 /* ---- The place in degrees */
 
+static double double_of(uint64_t bits)
+{
+    double x;
+    memcpy(&x, &bits, sizeof x);
+    return x;
+}
+
 /* Of 4 doubles that hold 0.5 the first 3 are left as `place`, if it is not NULL, and the rest as they were. */
 static void expect_report(const char *what, const uint64_t *record, size_t record_len, size_t place_len, uint32_t status,
     const double *place)
@@ -254,13 +261,12 @@ static void test_report(void)
     expect_report("latitude 901", record, 18, 3, GVZ_REFUSAL_OVER_LIMIT, NULL);
     record[GVZ_RECORD_IDENTIFICATION] = 5;
     expect_report("identification 5", record, 18, 3, GVZ_REFUSAL_IDENTIFICATION, NULL);
-}
 
-static double double_of(uint64_t bits)
-{
-    double x;
-    memcpy(&x, &bits, sizeof x);
-    return x;
+    /* the proofs know one NaN, so that its bits are looked at here */
+    double no_numbers[GVZ_PLACE_VALUES] = {double_of(0x7FF8000000000001), double_of(0xFFF0000000000002), double_of(0x7FF4000000000003)};
+    double left[GVZ_PLACE_VALUES];
+    memcpy(left, no_numbers, sizeof left);
+    expect_left("a refusal leaves the bits of a NaN", gvz_report(record, 18, left, 3), GVZ_REFUSAL_IDENTIFICATION, left, no_numbers, sizeof left);
 }
 
 static void expect_desk(const char *what, double latitude, double longitude, double depth, size_t fields_len, uint32_t status,
