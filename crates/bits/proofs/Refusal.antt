@@ -1,7 +1,7 @@
 -- Laws of tables of refusals.
 -- Assumes nothing.
 use mathlib.Core.Path.{_≡_, refl, sym, ap, _∙_}
-use mathlib.Core.Bool.{Bool, true, false, cond, and-eq-true-iff}
+use mathlib.Core.Bool.{Bool, true, false, cond, and-eq-true-iff, _||_, true≢false}
 use mathlib.Core.List.{List, [], _∷_, _++_}
 use Prim.Native.Nat.{ℕ, _<_}
 use native.Mathlib.Omega.{arith}
@@ -13,6 +13,11 @@ use Rattle.bits.specs.Refusal.{firstRefusal, orElse, NoneGiven, GivenFir
 twelve : firstRefusal ((1, false) ∷ (12, true) ∷ (14, true) ∷ []) ≡ 12
 unfolding firstRefusal
 twelve = refl
+
+-- a refusal of two tests is not given: neither test is met
+pub neither : (s t : Bool) → (s || t) ≡ false → (s ≡ false) × (t ≡ false)
+neither true t e = absurd (true≢false e)
+neither false t e = (refl, e)
 
 -- ---- one line of the table
 

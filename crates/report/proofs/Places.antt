@@ -1,6 +1,6 @@
 -- A reported place, its fields, and the record with other ones. Assumes nothing.
 use mathlib.Core.Path.{_≡_, _∙_, refl, sym, ap, ap₂, subst}
-use mathlib.Core.Bool.{Bool, true, false, _||_, true≢false}
+use mathlib.Core.Bool.{Bool, true, false}
 use mathlib.Core.Logic.{_≢_}
 use Prim.Native.Nat.{ℕ, _≤_, _<_}
 use native.Mathlib.Omega.{arith}
@@ -8,6 +8,7 @@ use lib.Dec.{eqb, ltb}
 use lib.Ieee.{Float}
 use borrow.Author.Tests.{eqb-true, eqb-false, ltb-false, le-ltb}
 use Rattle.bits.specs.Layout.{Fit}
+use Rattle.bits.proofs.Refusal.{neither}
 use Rattle.frame.specs.Fields.{fields, fieldWidths, recordBody, overLimit}
 use Rattle.frame.specs.Write.{Legal, recordRefusal}
 use Rattle.frame.specs.declared.Body.{Body}
@@ -24,10 +25,6 @@ use Rattle.report.specs.Promises.{placeFields, withPlace, reportsPlace}
 use Rattle.report.proofs.Cases.{legal, refused}
 
 -- ---- a place page's fields
-
-neither : (s t : Bool) → (s || t) ≡ false → (s ≡ false) × (t ≡ false)
-neither false t e = (refl, e)
-neither true t e = absurd (true≢false e)
 
 limited : (latitude longitude : ℕ) → overLimit PlacePage latitude longitude ≡ false → (latitude ≤ 900) × (longitude ≤ 1800)
 limited latitude longitude e =
