@@ -1,19 +1,22 @@
 -- The cases of the definitions, as the functions come to them. Assumes nothing.
 use mathlib.Core.Path.{_≡_, _∙_, ap, sym}
+use mathlib.Core.Bool.{Bool}
 use mathlib.Core.Logic.{_≢_}
 use mathlib.Core.List.{List}
 use Prim.Native.Nat.{ℕ}
 use lib.ListN.{length}
 use borrow.Author.Tests.{eq-eqb, ne-eqb}
+use Rattle.bits.specs.Bits.{digit}
 use Rattle.frame.specs.Fields.{fields}
 use Rattle.frame.specs.Read.{readOf}
 use Rattle.frame.specs.Write.{writeNumber, writeOf}
+use Rattle.frame.specs.Area.{warnedIn}
 use Rattle.frame.specs.declared.Record.{Record}
 use Rattle.frame.specs.declared.Damage.{Damage}
 use Rattle.frame.specs.declared.Reading.{Reading}
 use Rattle.frame.specs.declared.Reading.the-variants.{Accepted, Refused}
 use Rattle.abi.specs.Status.{statusOf}
-use Rattle.abi_frame.specs.Frame.{recordFrom, frameReadStatus, frameReadRecord, frameWriteStatus, frameWriteBytes}
+use Rattle.abi_frame.specs.Frame.{recordFrom, frameReadStatus, frameReadRecord, frameWriteStatus, frameWriteBytes, warnedStatus}
 
 -- ---- reading: the status n and the buffer t
 
@@ -44,3 +47,16 @@ module _ (v s : List ℕ) {n : ℕ} {t : List ℕ} where
   write-answered l e a p q =
       let z = eq-eqb (length v) 18 l in
       (rw z (p ∙ ap (λ (k : ℕ). statusOf k 0) (a ∙ ap (λ (r : Record). writeNumber r (length s)) e)), rw z (q ∙ ap (λ (r : Record). writeOf r s) e))
+
+-- ---- an area: the status n
+
+module _ (v : List ℕ) (k : ℕ) {n : ℕ} where
+  pub warned-wrong : length v ≢ 18 → n ≡ statusOf 1 0 → n ≡ warnedStatus v k
+  unfolding warnedStatus
+  warned-wrong h e = rw (ne-eqb (length v) 18 h) e
+
+  -- the answer a of the record r, which is b
+  pub warned-answered : {r : Record} {a b : Bool} → length v ≡ 18 → r ≡ recordFrom v → a ≡ warnedIn r k → a ≡ b → n ≡ statusOf 0 (digit b) → n ≡ warnedStatus v k
+  unfolding warnedStatus
+  warned-answered l e p q f =
+      rw (eq-eqb (length v) 18 l) (f ∙ ap (λ (t : Bool). statusOf 0 (digit t)) (sym q ∙ p ∙ ap (λ (r : Record). warnedIn r k) e))

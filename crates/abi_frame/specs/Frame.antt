@@ -4,9 +4,11 @@ use mathlib.Core.List.{List}
 use Prim.Native.Nat.{ℕ}
 use lib.Dec.{eqb}
 use lib.ListN.{length, getD}
+use Rattle.bits.specs.Bits.{digit}
 use Rattle.frame.specs.Fields.{fields}
 use Rattle.frame.specs.Read.{readOf, readingNumber, readingPlaces}
 use Rattle.frame.specs.Write.{writeNumber, writeOf}
+use Rattle.frame.specs.Area.{warnedIn}
 use Rattle.frame.specs.declared.Record.{Record}
 use Rattle.frame.specs.declared.Reading.{Reading}
 use Rattle.frame.specs.declared.Reading.the-variants.{Accepted, Refused}
@@ -53,3 +55,7 @@ frameWriteStatus v s = cond (eqb (length v) 18) (statusOf (writeNumber (recordFr
 
 unfoldable pub frameWriteBytes : (v s : List ℕ) → List ℕ
 frameWriteBytes v s = cond (eqb (length v) 18) (writeOf (recordFrom v) s) s
+
+-- a record of another length than 18 is 1, else 1 stands above the number where the area is warned; past area 55 none is
+unfoldable pub warnedStatus : (v : List ℕ) (area : ℕ) → ℕ
+warnedStatus v k = cond (eqb (length v) 18) (statusOf 0 (digit (warnedIn (recordFrom v) k))) (statusOf 1 0)

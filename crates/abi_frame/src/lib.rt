@@ -2,7 +2,7 @@
 ghost use mathlib.Core.Path.{_≡_};
 ghost use lib.ListN.{length};
 ghost use Rattle.frame.specs.Fields.{fields};
-ghost use Rattle.abi_frame.specs.Frame.{recordFrom, frameReadStatus, frameReadRecord, frameWriteStatus, frameWriteBytes};
+ghost use Rattle.abi_frame.specs.Frame.{recordFrom, frameReadStatus, frameReadRecord, frameWriteStatus, frameWriteBytes, warnedStatus};
 use frame::Reading;
 use frame::Record;
 
@@ -60,4 +60,17 @@ pub fn frame_write(values: &[u64], frame: &mut [u8]) -> u32
         return abi::status(1, 0);
     }
     abi::status(frame_writer::write(record_from(values), frame), 0)
+}
+
+// Whether an area of a record is warned: 1 above the number where it is.
+pub fn warned(values: &[u64], area: u64) -> u32
+    ensures { λ r. ⌜ r ≡ warnedStatus (now (values .entry)) area ⌝ }
+{
+    if values.len() != 18 {
+        return abi::status(1, 0);
+    }
+    if frame_reader::warned(record_from(values), area) {
+        return abi::status(0, 1);
+    }
+    abi::status(0, 0)
 }

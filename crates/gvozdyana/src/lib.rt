@@ -5,7 +5,7 @@
 // leaves every lent buffer as it was. The definitions stand in the specs/ of the crates that are called.
 ghost use mathlib.Core.Path.{_≡_};
 ghost use Rattle.abi_repair.specs.Repair.{repairStatus, repairWord};
-ghost use Rattle.abi_frame.specs.Frame.{frameReadStatus, frameReadRecord, frameWriteStatus, frameWriteBytes};
+ghost use Rattle.abi_frame.specs.Frame.{frameReadStatus, frameReadRecord, frameWriteStatus, frameWriteBytes, warnedStatus};
 ghost use Rattle.abi_place.specs.Place.{reportStatus, reportPlace, deskStatus, deskFields};
 ghost use Rattle.abi_receiver.specs.Receiver.{followStatus, captureSource, captureNumbers};
 ghost use Rattle.abi_header.specs.Header.{headerReadStatus, headerReadValues, headerWriteStatus, headerWriteBytes, layInStatus, takeOutStatus};
@@ -45,6 +45,13 @@ pub extern "C" fn gvz_frame_write(values: &[u64], frame: &mut [u8]) -> u32
     ensures { λ _. ⌜ now (frame .exit) ≡ frameWriteBytes (now (values .entry)) (now (frame .entry)) ⌝ }
 {
     abi_frame::frame_write(values, frame)
+}
+
+#[no_mangle]
+pub extern "C" fn gvz_warned(values: &[u64], area: u64) -> u32
+    ensures { λ r. ⌜ r ≡ warnedStatus (now (values .entry)) area ⌝ }
+{
+    abi_frame::warned(values, area)
 }
 
 #[no_mangle]
