@@ -241,10 +241,9 @@ fn written(record: &Record) -> [u8; FRAME_BYTES] {
     whole
 }
 
-/// "Page 0: B(56+k) belongs to area k, 0 to 55 ... 0 means warned."
-pub fn warned(record: &Record, area: usize) -> bool {
-    record[IDENTIFICATION] <= 3
-        && record[PAGE] == 0
-        && area < 56
-        && record[AREAS] >> (55 - area) & 1 == 0
+/// "Details for 0 to 3 ... Page 0: B(56+k) belongs to area k, 0 to 55 ... 0 means warned." Any record may be asked, and any number.
+pub fn warned(record: &Record, area: u64) -> bool {
+    let body: [u8; 8] = (record[AREAS] << 8).to_be_bytes();
+    let has_areas = record[IDENTIFICATION] <= 3 && record[PAGE] == 0;
+    has_areas && area <= 55 && !bit(&body, area as usize)
 }

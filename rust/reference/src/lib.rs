@@ -1,4 +1,5 @@
-//! A plain version of what the box computes, written from document 01 alone, to compare the proved one with.
+//! A plain version of what the box computes, to compare the proved one with. It was written from document 01, by people who had read the Rattle: the
+//! two have no code in common, but what was read wrongly in the document may be wrong in both.
 pub mod capture;
 pub mod code;
 pub mod crc;

@@ -40,7 +40,9 @@ fn pattern_0_with_all_else_zero() {
     let (read, places) = read(&all).expect("accepted");
     assert_eq!((read, places), ([0; 18], 0));
     assert!((0..56).all(|area| warned(&read, area)));
-    assert!(!warned(&read, 56));
+    for area in [56, 63, 64, 1 << 32, u64::MAX] {
+        assert!(!warned(&read, area), "area {area}");
+    }
     assert_eq!(written(&read), all);
 }
 
@@ -54,6 +56,8 @@ fn tokyo_is_area_15() {
     assert_eq!(sent[..14], only[..14]);
     assert!((0..56).all(|area| warned(&tokyo, area) == (area == 15)));
     assert!((0..56).all(|area| !warned(&place(), area)));
+    let nothing = record(&[(IDENTIFICATION, 7)]);
+    assert!((0..56).all(|area| !warned(&nothing, area)));
 }
 
 #[test]
