@@ -9,7 +9,13 @@ mod report;
 pub use reading::lines as readings;
 
 /// The test programs whose output is stored, in `crates/NAME/stdout`.
-pub const NAMES: [&str; 5] = ["test_headers", "test_places", "test_records", "test_reports", "test_receiver"];
+pub const NAMES: [&str; 5] = [
+    "test_headers",
+    "test_places",
+    "test_records",
+    "test_reports",
+    "test_receiver",
+];
 
 /// The whole output of a test program.
 pub fn expected(name: &str) -> Option<String> {
