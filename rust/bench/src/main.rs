@@ -166,7 +166,7 @@ fn header_rows(count: usize) {
         count,
         headers::legal_record,
         |&record| {
-            black_box(header::write(&Header::from(record))).ok();
+            black_box(header::write(&Header::from_values(record))).ok();
         },
         |record| {
             let mut buffer = [0; 188];

@@ -1,47 +1,49 @@
 //! The cable multiplex frame header, read and written, and a frame laid into it and taken out.
 use crate::{calls, told, Refusal, HEADER_BYTES};
 
-/// The numbers of a header's record.
+/// The values of a header's record.
 pub const HEADER_VALUES: usize = 145;
 
-/// What a header says; the fixed bits and the CRC are not in it. Each number may be too much for its place, and the writer then refuses it.
+/// What a header says, and how many bits each field has; fixed bits and CRC are not in it. Each value may be too much for its place, and the writer
+/// then refuses it.
 #[derive(Clone, Copy, Debug, PartialEq, Eq, Hash)]
 pub struct Header {
-    /// The packet header, 32 bits; byte 0, the highest, is 0x47.
+    /// 32 bits: the packet header, byte 0 highest, which is 0x47.
     pub packet: u64,
-    /// The frame sync, 16 bits.
-    pub sync: u64,
-    /// The change number, 3 bits.
+    /// 16 bits: the multiplex frame's sync.
+    pub frame_sync: u64,
+    /// 3 bits: the change number.
     pub change: u64,
+    /// 1 bit: the method.
     pub method: u64,
-    /// The multiplex form, 1.
+    /// 4 bits: the multiplex form, 0x1.
     pub form: u64,
-    /// 1 where a stream, 1 to 15, is valid.
+    /// 1 bit each: streams 1 to 15, 1 for valid.
     pub valid: [u64; 15],
-    /// The stream ids of streams 1 to 15, 16 bits each.
+    /// 16 bits each: the stream ids of streams 1 to 15.
     pub streams: [u64; 15],
-    /// Their original network ids, 16 bits each.
+    /// 16 bits each: the original network ids of streams 1 to 15.
     pub networks: [u64; 15],
-    /// Their reception states, 0 to 2.
+    /// 2 bits each: the reception states of streams 1 to 15, 0 (best), 1 or 2.
     pub states: [u64; 15],
-    /// The bit before the emergency start.
+    /// 1 bit: carried as it stands.
     pub carried: u64,
-    /// 1 for emergency start.
+    /// 1 bit: emergency start.
     pub emergency: u64,
-    /// The streams of slots 2 to 53; 0 for an empty slot.
+    /// 4 bits each: the stream of slots 2 to 53, 0 for an empty one.
     pub slots: [u64; 52],
-    /// The 204 AC bits: 25 bytes, and four bits.
+    /// 25 values of 8 bits, 1 of 4: the AC frame's 204 bits; all ones when none is sent.
     pub ac: [u64; 26],
 }
 
 impl Default for Header {
-    /// No valid stream, empty slots, and no frame.
+    /// No valid stream, every slot empty, and no frame sent: the AC bits are all ones.
     fn default() -> Header {
         let mut ac = [0xFF; 26];
         ac[25] = 0xF;
         Header {
             packet: 0x4700_0000,
-            sync: 0,
+            frame_sync: 0,
             change: 0,
             method: 0,
             form: 1,
@@ -57,11 +59,12 @@ impl Default for Header {
     }
 }
 
-impl From<[u64; HEADER_VALUES]> for Header {
-    fn from(values: [u64; HEADER_VALUES]) -> Header {
+impl Header {
+    /// The header with these values, in their order in a header's record: the ids of stream and network are in turn there.
+    pub fn from_values(values: [u64; HEADER_VALUES]) -> Header {
         Header {
             packet: values[0],
-            sync: values[1],
+            frame_sync: values[1],
             change: values[2],
             method: values[3],
             form: values[4],
@@ -75,24 +78,23 @@ impl From<[u64; HEADER_VALUES]> for Header {
             ac: std::array::from_fn(|i| values[119 + i]),
         }
     }
-}
 
-impl From<Header> for [u64; HEADER_VALUES] {
-    fn from(header: Header) -> [u64; HEADER_VALUES] {
+    /// The values of the header's record.
+    pub fn values(&self) -> [u64; HEADER_VALUES] {
         std::array::from_fn(|i| match i {
-            0 => header.packet,
-            1 => header.sync,
-            2 => header.change,
-            3 => header.method,
-            4 => header.form,
-            5..=19 => header.valid[i - 5],
-            20..=49 if i % 2 == 0 => header.streams[(i - 20) / 2],
-            20..=49 => header.networks[(i - 21) / 2],
-            50..=64 => header.states[i - 50],
-            65 => header.carried,
-            66 => header.emergency,
-            67..=118 => header.slots[i - 67],
-            _ => header.ac[i - 119],
+            0 => self.packet,
+            1 => self.frame_sync,
+            2 => self.change,
+            3 => self.method,
+            4 => self.form,
+            5..=19 => self.valid[i - 5],
+            20..=49 if i % 2 == 0 => self.streams[(i - 20) / 2],
+            20..=49 => self.networks[(i - 21) / 2],
+            50..=64 => self.states[i - 50],
+            65 => self.carried,
+            66 => self.emergency,
+            67..=118 => self.slots[i - 67],
+            _ => self.ac[i - 119],
         })
     }
 }
@@ -114,7 +116,7 @@ impl From<Header> for [u64; HEADER_VALUES] {
 pub fn read(header: &[u8]) -> Result<Header, Refusal> {
     let mut values = [0; HEADER_VALUES];
     told(calls::header_read(header, &mut values))?;
-    Ok(values.into())
+    Ok(Header::from_values(values))
 }
 
 /// Writes a header. Refuses 10, 12, 14, 15.
@@ -137,8 +139,7 @@ pub fn write(header: &Header) -> Result<[u8; HEADER_BYTES], Refusal> {
 
 /// The same into a buffer of 188 bytes, which a refusal leaves as it was. A buffer of another length is refusal 1.
 pub fn write_into(header: &Header, bytes: &mut [u8]) -> Result<(), Refusal> {
-    let values: [u64; HEADER_VALUES] = (*header).into();
-    told(calls::header_write(&values, bytes)).map(|_| ())
+    told(calls::header_write(&header.values(), bytes)).map(|_| ())
 }
 
 /// Lays a frame, repaired, into a header. Refuses the header as [`read`] does, then the frame as [`frame::read`](crate::frame::read) does;

@@ -30,7 +30,7 @@ macro_rules! refusals {
 }
 
 refusals! {
-    WrongLength = 1, "a frame is not 26 bytes, a header is not 188, or a frame number is past the capture";
+    WrongLength = 1, "a frame is not 26 bytes, a header is not 188, a frame number is past the capture, or a buffer has another length than the one named";
     FillerSet = 2, "a filler bit is 1";
     NoPattern = 3, "B1 to B16 are neither pattern";
     BeyondRepair = 4, "no code word lies within eight places";
@@ -38,10 +38,10 @@ refusals! {
     Identification = 6, "the identification is 4, 5 or 6, or above 7 in a record";
     StartEndOrUpdate = 7, "start/end or update is not as the identification asks";
     FixedBit = 8, "a bit fixed at 1 is 0";
-    OverLimit = 9, "page 1, kind 0: latitude or longitude is over its limit";
+    OverLimit = 9, "page 1, kind 0: latitude is over 900 tenths, or longitude over 1800";
     Field = 10, "a record to be written has a field wider than its place, or not 0 where none is left free";
     NoImage = 11, "a double is no field value's image";
-    HeaderSync = 12, "header byte 0 is not 0x47";
+    PacketSync = 12, "header byte 0 is not 0x47";
     HeaderCrc = 13, "the header's CRC does not come out zero";
     MultiplexForm = 14, "the multiplex form is not 0x1";
     HeaderBits = 15, "a header bit fixed at 1 is 0, or a reception state is 11";

@@ -157,8 +157,8 @@ fn frames_laid_in_and_taken_out() {
 fn legal_headers_come_back() {
     for_each_seed(44, headers(), |random, case| {
         let values = legal_record(random);
-        let header = Header::from(values);
-        assert_eq!(<[u64; 145]>::from(header), values);
+        let header = Header::from_values(values);
+        assert_eq!(header.values(), values);
         let bytes =
             write(&header).unwrap_or_else(|refusal| panic!("{refusal}: {header:?}, {case}"));
         assert_eq!(read(&bytes), Ok(header), "{case}");
@@ -170,7 +170,7 @@ fn the_order_of_the_fields() {
     let counted = |first: u64| move |i: usize| first + i as u64;
     let header = Header {
         packet: 0,
-        sync: 1,
+        frame_sync: 1,
         change: 2,
         method: 3,
         form: 4,
@@ -183,6 +183,6 @@ fn the_order_of_the_fields() {
         slots: std::array::from_fn(counted(67)),
         ac: std::array::from_fn(counted(119)),
     };
-    assert_eq!(<[u64; 145]>::from(header), std::array::from_fn(counted(0)));
-    assert_eq!(Header::from(<[u64; 145]>::from(header)), header);
+    assert_eq!(header.values(), std::array::from_fn(counted(0)));
+    assert_eq!(Header::from_values(header.values()), header);
 }
