@@ -33,7 +33,7 @@ fn looped(frames: &[u8]) {
     let mut text = Vec::new();
     for (n, piece) in frames.chunks(26).enumerate() {
         match frame::read(piece) {
-            Ok(reading) => writeln!(text, "{} 0 {}", n + 1, reading.places),
+            Ok(reading) => writeln!(text, "{} 0 {}", n + 1, reading.repaired),
             Err(refusal) => writeln!(text, "{} {} -", n + 1, refusal.number()),
         }
         .expect("memory");

@@ -2,6 +2,7 @@
 //! one is. The only argument is the number of frames of each sort; of headers there are a tenth.
 mod listing;
 
+use gvozdyana::frame::Record;
 use gvozdyana::header::Header;
 use gvozdyana::{frame, header, place};
 use reference as plain;
@@ -97,7 +98,7 @@ fn frame_rows(count: usize) {
         count,
         |random| records::legal_record(random.pick(&BODIES), random),
         |&record| {
-            black_box(frame::write(&record.into())).ok();
+            black_box(frame::write(&Record::from_values(record))).ok();
         },
         |record| {
             let mut buffer = [0; 26];
@@ -113,7 +114,7 @@ fn place_rows(count: usize) {
         count,
         |random| records::legal_record(Body::Place, random),
         |&record| {
-            black_box(place::report(&record.into())).ok();
+            black_box(place::report(&Record::from_values(record))).ok();
         },
         |record| {
             black_box(plain::place::report(record)).ok();

@@ -1,19 +1,31 @@
-//! A frame that arrived with one bit hit is read, reported, followed, and laid into a header.
-use gvozdyana::follower::{Event, State};
-use gvozdyana::header::{lay_in, write, Header};
+//! A frame that arrived with one bit hit is read, its warned areas are listed, and it is reported, followed, and laid into a header.
+use gvozdyana::follower::{Event, State, Update};
+use gvozdyana::frame::{self, Identification, Record, Warning};
+use gvozdyana::header::{self, Header};
 use gvozdyana::place::{report, Report};
 
 fn main() -> Result<(), gvozdyana::Refusal> {
-    let mut frame = [0; 26];
-    (frame[0], frame[1], frame[25]) = (0x1A, 0xF7, 0x10);
-    let reading = gvozdyana::frame::read(&frame)?;
-    assert_eq!(reading.places, 1);
-    assert!(reading.record.warned(15));
-    assert_eq!(report(&reading.record)?, Report::AreasOnly);
-    assert_eq!(State::default().follow(&frame).1, Event::Begins);
+    let warning = Warning {
+        identification: Identification::WarningWithArea,
+        update: Update::new(0).expect("0 to 3"),
+        time: 1000,
+    };
+    let sent = Record::for_areas(warning, [14, 15]).expect("0 to 55");
+    let mut frame = frame::write(&sent)?;
+    // B71, which belongs to area 15, Tokyo.
+    frame[8] ^= 0x01;
 
-    let mut header = write(&Header::default())?;
-    lay_in(&mut header, &frame)?;
+    let reading = frame::read(&frame)?;
+    assert_eq!((reading.record, reading.repaired), (sent, 1));
+    for area in reading.record.warned_areas() {
+        println!("area {area} is warned");
+    }
+    assert_eq!(report(&reading.record)?, Report::AreasOnly);
+    let (state, event) = State::Quiet.follow(&frame);
+    assert_eq!((state, event), (State::Real(warning.update), Event::Begins));
+
+    let mut header = header::write(&Header::default())?;
+    header::lay_in(&mut header, &frame)?;
     println!("laid in: {:02x?}", &header[99..125]);
     Ok(())
 }

@@ -1,6 +1,6 @@
-//! The exported functions as the archive has them, over numbers and slices. Each but [`crc32`] answers a status: the refusal's number in the low 8 bits,
-//! 0 where nothing was refused, and above them what else it tells. A refusal leaves every buffer as it was, and a buffer of another
-//! length than the one named is refusal 1. The other modules say the same with types.
+//! The exported functions as the archive has them, over numbers and slices. Each but [`capture_source`], [`capture_numbers`] and [`crc32`], which
+//! refuse nothing, returns a status: the refusal's number in the low 8 bits, 0 where nothing was refused, and above them what else it tells.
+//! A refusal leaves every buffer as it was, and a buffer of another length than the one named is refusal 1. The other modules say the same with types.
 
 mod archive {
     extern "C" {
@@ -28,6 +28,7 @@ mod archive {
             frame: *mut u8,
             frame_len: usize,
         ) -> u32;
+        pub fn gvz_warned(record: *const u64, record_len: usize, area: u64) -> u32;
         pub fn gvz_report(
             record: *const u64,
             record_len: usize,
@@ -115,6 +116,11 @@ pub fn frame_write(record: &[u64], frame: &mut [u8]) -> u32 {
             frame.len(),
         )
     }
+}
+
+/// The number and 256 times 1 for a warned area; `record` has 18 values.
+pub fn warned(record: &[u64], area: u64) -> u32 {
+    unsafe { archive::gvz_warned(record.as_ptr(), record.len(), area) }
 }
 
 /// The number and 256 times the case; `record` has 18 values and `place`, which is written for a place alone, 3.

@@ -1,9 +1,12 @@
 //! The captures of two tuners: frames end to end, frame n at byte 26 n.
 use crate::{calls, Refusal, FRAME_BYTES};
 
+/// Which of the two tuners.
 #[derive(Clone, Copy, Debug, PartialEq, Eq, Hash)]
 pub enum Tuner {
+    /// The one whose frame is taken if it is accepted.
     Main,
+    /// The one whose frame is taken if only it is accepted.
     Spare,
 }
 
@@ -24,7 +27,7 @@ pub fn source(main: &[u8], spare: &[u8], n: u64) -> Option<Tuner> {
 /// use gvozdyana::frame::{write, Record};
 /// use gvozdyana::Refusal;
 ///
-/// let spare = write(&Record::default())?;
+/// let spare = write(&Record::no_information(5))?;
 /// let main = [0; 26];
 /// assert_eq!(frame_at(&main, &spare, 0), Some(&spare[..]));
 /// assert_eq!(numbers(&main, &spare, 0), (Err(Refusal::NoPattern), Ok(())));

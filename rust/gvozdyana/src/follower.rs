@@ -11,6 +11,7 @@ impl Update {
         (number < 4).then_some(Update(number))
     }
 
+    /// The number, 0 to 3.
     pub fn number(self) -> u8 {
         self.0
     }
@@ -19,20 +20,29 @@ impl Update {
 /// What the follower keeps between frames. A new one, and one that is reset, is quiet.
 #[derive(Clone, Copy, Debug, Default, PartialEq, Eq, Hash)]
 pub enum State {
+    /// No information was last received, or nothing yet.
     #[default]
     Quiet,
+    /// A warning with this update number, identification 0 or 1.
     Real(Update),
+    /// A test with this update number, identification 2 or 3.
     Test(Update),
 }
 
 /// What a frame means after those before it.
 #[derive(Clone, Copy, Debug, PartialEq, Eq, Hash)]
 pub enum Event {
+    /// No information, as before.
     Quiet,
+    /// No information, after a warning or a test.
     Ended,
+    /// A warning or a test from quiet, or after one of the other kind.
     Begins,
+    /// The update number that was held.
     Same,
+    /// The update number after the one that was held, modulo 4.
     Changed,
+    /// Any other update number.
     Skipped,
     /// The frame is refused, and the state stays.
     Refused(Refusal),
@@ -68,14 +78,22 @@ impl State {
     /// The next state and the event.
     ///
     /// ```
-    /// use gvozdyana::follower::{Event, State};
-    /// use gvozdyana::frame::{write, Record};
+    /// use gvozdyana::follower::{Event, State, Update};
+    /// use gvozdyana::frame::{write, Identification, Record, Warning};
     /// use gvozdyana::Refusal;
     ///
-    /// let of = |update| write(&Record { update, ..Record::default() });
-    /// let (state, event) = State::default().follow(&of(3)?);
+    /// let with_update = |number| {
+    ///     let warning = Warning {
+    ///         identification: Identification::WarningWithArea,
+    ///         update: Update::new(number).unwrap(),
+    ///         time: 1000,
+    ///     };
+    ///     write(&Record::for_areas(warning, [15]).unwrap())
+    /// };
+    /// let (state, event) = State::Quiet.follow(&with_update(3)?);
     /// assert_eq!(event, Event::Begins);
-    /// assert_eq!(state.follow(&of(0)?).1, Event::Changed);
+    /// assert_eq!(state.follow(&with_update(0)?).1, Event::Changed);
+    /// assert_eq!(state.follow(&write(&Record::no_information(5))?), (State::Quiet, Event::Ended));
     /// assert_eq!(state.follow(&[]), (state, Event::Refused(Refusal::WrongLength)));
     /// # Ok::<(), Refusal>(())
     /// ```

@@ -1,98 +1,255 @@
-//! The warning frame, read and written.
-use crate::{calls, told, Refusal, FRAME_BYTES};
+//! The warning frame, read and written, and records made of what is meant.
+use crate::follower::Update;
+use crate::{calls, place, told, Refusal, FRAME_BYTES};
 
-/// The numbers of a record.
-pub const RECORD_VALUES: usize = 18;
+/// The values of a frame's record.
+pub const FRAME_VALUES: usize = 18;
+
+/// Areas are numbered from 0 to 55, in the order of the notice's schedule 2; 15 is Tokyo.
+pub const AREAS: u64 = 56;
 
 /// Declares the record and its order as numbers from one table.
 macro_rules! record {
     ($($name:ident, $words:literal;)*) => {
-        /// What a frame says. A field that identification, page and kind do not leave free is 0. Each may hold too much for its place, and the
-        /// writer then refuses it.
-        #[derive(Clone, Copy, Debug, Default, PartialEq, Eq, Hash)]
+        /// What a frame says, and how many bits each field has. A field that identification, page and kind do not leave free is 0, so that a record
+        /// of zeros is a warning for ALL areas. There is no default: make a record by [`Record::no_information`], [`Record::for_areas`],
+        /// [`Record::at_place`] or [`Record::cancellation`], and change fields then. Each may hold too much for its place, and the writer then
+        /// refuses it.
+        ///
+        /// ```compile_fail
+        /// gvozdyana::frame::Record::default();
+        /// ```
+        #[derive(Clone, Copy, Debug, PartialEq, Eq, Hash)]
         pub struct Record {
             $(#[doc = $words] pub $name: u64,)*
         }
 
-        impl From<[u64; RECORD_VALUES]> for Record {
-            fn from([$($name),*]: [u64; RECORD_VALUES]) -> Record {
+        impl Record {
+            /// The record with these values, in the order of the fields.
+            pub fn from_values([$($name),*]: [u64; FRAME_VALUES]) -> Record {
                 Record { $($name),* }
             }
-        }
 
-        impl From<Record> for [u64; RECORD_VALUES] {
-            fn from(record: Record) -> [u64; RECORD_VALUES] {
-                [$(record.$name),*]
+            /// The values of the fields, in their order.
+            pub fn values(&self) -> [u64; FRAME_VALUES] {
+                [$(self.$name),*]
             }
         }
     };
 }
 
 record! {
-    reference, "B0, the differential reference.";
-    pattern, "Which of the two patterns stands in B1 to B16.";
-    identification, "0 to 3: warning with area, warning without, test with area, test without; 7: no information.";
-    update, "The update number, 0 to 3.";
-    time, "The current time.";
-    page, "0: areas; 1: a place or a cancellation.";
-    areas, "B56 to B111, B56 highest; 0 means warned.";
-    total, "B56 of page 1.";
-    item, "B57 of page 1.";
-    number, "The warning number.";
-    kind, "1: a cancellation.";
-    south, "1: the latitude is southern.";
-    latitude, "In tenths of a degree.";
-    west, "1: the longitude is western.";
-    longitude, "In tenths of a degree.";
-    depth, "In kilometres.";
-    occurred, "The time of occurrence.";
-    broadcaster, "The broadcaster number, of no information alone.";
+    reference, "1 bit: B0, the differential reference, carried as it stands.";
+    pattern, "1 bit: 0 for the pattern 0011010111101110 in B1 to B16, 1 for its complement.";
+    identification, "3 bits: 0 to 3 are the numbers of an [`Identification`], 7 is no information. 4, 5 and 6 are undefined, and refused.";
+    update, "2 bits: goes 0, 1, 2, 3 and back to 0, so that the greater one is not the newer one ([`State::follow`](crate::follower::State::follow)).";
+    time, "31 bits: the current time, a plain number that is carried as it stands.";
+    page, "1 bit: 0 for areas, 1 for a place or a cancellation.";
+    areas, "56 bits: area 0 highest, and 0 MEANS WARNED. It means something only on page 0 of identification 0 to 3; elsewhere it is 0 and nobody is \
+        warned. Ask [`Record::warned`], which looks at all of that.";
+    total, "1 bit, as all from here to `occurred` of page 1 alone: how many places are being sent, 0 for one and 1 for two.";
+    item, "1 bit: which of them this is.";
+    number, "9 bits: the warning number.";
+    kind, "1 bit: 0 for a place, 1 for a cancellation, which leaves the six after it 0.";
+    south, "1 bit: 0 north, 1 south.";
+    latitude, "10 bits: tenths of a degree, 0 to 900.";
+    west, "1 bit: 0 east, 1 west.";
+    longitude, "11 bits: tenths of a degree, 0 to 1800.";
+    depth, "10 bits: kilometres.";
+    occurred, "10 bits: the time of occurrence, a plain number that is carried as it stands.";
+    broadcaster, "11 bits: the broadcaster number, of identification 7 alone.";
+}
+
+/// The identifications of warnings and tests; the number of each is its place here, from 0.
+#[derive(Clone, Copy, Debug, PartialEq, Eq, Hash)]
+pub enum Identification {
+    /// 0: a warning with area.
+    WarningWithArea,
+    /// 1: a warning without area.
+    WarningWithoutArea,
+    /// 2: a test with area.
+    TestWithArea,
+    /// 3: a test without area.
+    TestWithoutArea,
+}
+
+impl Identification {
+    /// The number that a record holds.
+    pub fn number(self) -> u64 {
+        self as u64
+    }
+}
+
+/// What every warning and every test carries.
+#[derive(Clone, Copy, Debug, PartialEq, Eq, Hash)]
+pub struct Warning {
+    /// Which of the four it is.
+    pub identification: Identification,
+    /// The update number.
+    pub update: Update,
+    /// 31 bits: the current time, a plain number.
+    pub time: u64,
+}
+
+/// All with pattern 0 and a reference bit of 0. Numbers that are too great for their places are kept, and refused by the writer.
+impl Record {
+    /// No information, from the broadcaster with this number, of 11 bits.
+    ///
+    /// ```
+    /// use gvozdyana::frame::{read, write, Record};
+    ///
+    /// let record = Record::no_information(5);
+    /// assert_eq!(record.warned_areas().count(), 0);
+    /// assert_eq!(read(&write(&record)?)?.record, record);
+    /// # Ok::<(), gvozdyana::Refusal>(())
+    /// ```
+    pub fn no_information(broadcaster: u64) -> Record {
+        Record {
+            identification: 7,
+            broadcaster,
+            ..Record::from_values([0; FRAME_VALUES])
+        }
+    }
+
+    /// A warning for these areas and no others; none where an area is above 55.
+    ///
+    /// ```
+    /// use gvozdyana::follower::Update;
+    /// use gvozdyana::frame::{Identification, Record, Warning, AREAS};
+    ///
+    /// let test = Warning {
+    ///     identification: Identification::TestWithArea,
+    ///     update: Update::new(0).unwrap(),
+    ///     time: 1000,
+    /// };
+    /// let tokyo = Record::for_areas(test, [15]).unwrap();
+    /// assert!(tokyo.warned(15));
+    /// assert!(!tokyo.warned(14));
+    /// assert_eq!(Record::for_areas(test, 0..AREAS).unwrap().warned_areas().count(), 56);
+    /// assert_eq!(Record::for_areas(test, []).unwrap().warned_areas().count(), 0);
+    /// assert_eq!(Record::for_areas(test, [15, 56]), None);
+    /// ```
+    pub fn for_areas(warning: Warning, areas: impl IntoIterator<Item = u64>) -> Option<Record> {
+        let mut bits = (1 << AREAS) - 1;
+        for area in areas {
+            bits &= !(1 << (AREAS - 1).checked_sub(area)?);
+        }
+        Some(Record {
+            areas: bits,
+            ..warning.on_page(0)
+        })
+    }
+
+    /// The place of the warning with this number, of 9 bits, and its time of occurrence, of 10 bits. It is the only one being sent; where there are
+    /// two, set `total` to 1 and `item` in each.
+    ///
+    /// ```
+    /// use gvozdyana::follower::Update;
+    /// use gvozdyana::frame::{Identification, Record, Warning};
+    /// use gvozdyana::place::{fields, report, Place, Report};
+    ///
+    /// let warning = Warning {
+    ///     identification: Identification::WarningWithArea,
+    ///     update: Update::new(1).unwrap(),
+    ///     time: 1000,
+    /// };
+    /// let place = Place { latitude: 35.6, longitude: 139.7, depth: 40.0 };
+    /// let record = Record::at_place(warning, 7, fields(place)?, 990);
+    /// assert_eq!(report(&record), Ok(Report::Place(place)));
+    /// # Ok::<(), gvozdyana::Refusal>(())
+    /// ```
+    pub fn at_place(warning: Warning, number: u64, place: place::Fields, occurred: u64) -> Record {
+        Record {
+            number,
+            south: place.south,
+            latitude: place.latitude,
+            west: place.west,
+            longitude: place.longitude,
+            depth: place.depth,
+            occurred,
+            ..warning.on_page(1)
+        }
+    }
+
+    /// The cancellation of the warning with this number, of 9 bits.
+    ///
+    /// ```
+    /// use gvozdyana::follower::Update;
+    /// use gvozdyana::frame::{Identification, Record, Warning};
+    /// use gvozdyana::place::{report, Report};
+    ///
+    /// let warning = Warning {
+    ///     identification: Identification::WarningWithArea,
+    ///     update: Update::new(2).unwrap(),
+    ///     time: 1000,
+    /// };
+    /// assert_eq!(report(&Record::cancellation(warning, 7)), Ok(Report::Cancellation));
+    /// ```
+    pub fn cancellation(warning: Warning, number: u64) -> Record {
+        Record {
+            number,
+            kind: 1,
+            ..warning.on_page(1)
+        }
+    }
+}
+
+impl Warning {
+    /// A record of this page, with 0 in the page's fields.
+    fn on_page(self, page: u64) -> Record {
+        Record {
+            identification: self.identification.number(),
+            update: self.update.number().into(),
+            time: self.time,
+            page,
+            ..Record::from_values([0; FRAME_VALUES])
+        }
+    }
 }
 
 impl Record {
-    /// Whether an area, 0 to 55, is warned: on page 0 of identification 0 to 3 its bit is 0.
-    ///
-    /// ```
-    /// use gvozdyana::frame::Record;
-    ///
-    /// let tokyo = Record { areas: (1 << 56) - 1 - (1 << (55 - 15)), ..Record::default() };
-    /// assert!(tokyo.warned(15));
-    /// assert!(!tokyo.warned(14));
-    /// ```
-    pub fn warned(&self, area: u32) -> bool {
-        self.identification <= 3
-            && self.page == 0
-            && area < 56
-            && self.areas >> (55 - area) & 1 == 0
+    /// Whether an area is warned: on page 0 of identification 0 to 3 its bit is 0. An area above 55 is not.
+    pub fn warned(&self, area: u64) -> bool {
+        let warned = told(calls::warned(&self.values(), area));
+        warned.expect("the archive refuses no record of 18 values") == 1
+    }
+
+    /// The numbers of the areas that are warned, in their order.
+    pub fn warned_areas(&self) -> impl Iterator<Item = u64> + '_ {
+        (0..AREAS).filter(|&area| self.warned(area))
     }
 }
 
 /// An accepted frame's record, and the number of its repaired places.
 #[derive(Clone, Copy, Debug, PartialEq, Eq)]
 pub struct Reading {
+    /// What the frame says.
     pub record: Record,
-    pub places: u8,
+    /// The number of repaired places, 0 to 8.
+    pub repaired: u8,
 }
 
 /// Reads a frame. Refuses 1 to 9.
 ///
 /// ```
-/// use gvozdyana::frame::{read, Record};
+/// use gvozdyana::frame::read;
 /// use gvozdyana::Refusal;
 ///
 /// let mut frame = [0; 26];
 /// assert_eq!(read(&frame), Err(Refusal::NoPattern));
+/// // Pattern 0 with all else zero is a real warning for all areas.
 /// (frame[0], frame[1]) = (0x1A, 0xF7);
 /// let reading = read(&frame)?;
-/// assert_eq!((reading.record, reading.places), (Record::default(), 0));
+/// assert_eq!(reading.repaired, 0);
+/// assert_eq!(reading.record.warned_areas().count(), 56);
 /// # Ok::<(), Refusal>(())
 /// ```
 pub fn read(frame: &[u8]) -> Result<Reading, Refusal> {
-    let mut values = [0; RECORD_VALUES];
-    let places = told(calls::frame_read(frame, &mut values))?;
+    let mut values = [0; FRAME_VALUES];
+    let repaired = told(calls::frame_read(frame, &mut values))?;
     Ok(Reading {
-        record: values.into(),
-        places: places as u8,
+        record: Record::from_values(values),
+        repaired: repaired as u8,
     })
 }
 
@@ -102,12 +259,12 @@ pub fn read(frame: &[u8]) -> Result<Reading, Refusal> {
 /// use gvozdyana::frame::{read, write, Record};
 /// use gvozdyana::Refusal;
 ///
-/// let mut record = Record { page: 1, latitude: 356, longitude: 1397, depth: 40, ..Record::default() };
+/// let mut record = Record::no_information(2047);
 /// assert_eq!(read(&write(&record)?)?.record, record);
-/// record.latitude = 901;
-/// assert_eq!(write(&record), Err(Refusal::OverLimit));
-/// record.latitude = 1024;
+/// record.broadcaster = 2048;
 /// assert_eq!(write(&record), Err(Refusal::Field));
+/// record.identification = 4;
+/// assert_eq!(write(&record), Err(Refusal::Identification));
 /// # Ok::<(), Refusal>(())
 /// ```
 pub fn write(record: &Record) -> Result<[u8; FRAME_BYTES], Refusal> {
@@ -118,6 +275,5 @@ pub fn write(record: &Record) -> Result<[u8; FRAME_BYTES], Refusal> {
 
 /// The same into a buffer of 26 bytes, which a refusal leaves as it was. A buffer of another length is refusal 1.
 pub fn write_into(record: &Record, frame: &mut [u8]) -> Result<(), Refusal> {
-    let values: [u64; RECORD_VALUES] = (*record).into();
-    told(calls::frame_write(&values, frame)).map(|_| ())
+    told(calls::frame_write(&record.values(), frame)).map(|_| ())
 }

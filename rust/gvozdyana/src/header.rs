@@ -151,7 +151,7 @@ pub fn write_into(header: &Header, bytes: &mut [u8]) -> Result<(), Refusal> {
 ///
 /// let empty = write(&Header::default())?;
 /// let mut header = empty;
-/// lay_in(&mut header, &frame::write(&frame::Record::default())?)?;
+/// lay_in(&mut header, &frame::write(&frame::Record::no_information(5))?)?;
 /// assert_ne!(header, empty);
 /// take_out(&mut header)?;
 /// assert_eq!(header, empty);

@@ -1,26 +1,15 @@
-//! The proved functions of Gvozdyana, for Rust programs. What each answers is proved; this crate hands numbers and bytes
-//! over. It computes nothing itself but [`frame::Record::warned`] and the part of a capture in [`capture::frame_at`].
+//! The proved functions of Gvozdyana, for Rust programs. What each answers is proved; this crate, which no proof reaches, hands numbers and bytes over.
+//! It computes nothing itself but the bits of [`frame::Record::for_areas`] and the part of a capture in [`capture::frame_at`].
 //!
-//! A frame that arrived with one bit hit is read, followed, and laid into a header:
+//! The functions stand in the archive `libgvozdyana.a`, which `rt staticlib gvozdyana` makes. It is looked for in the folder that the environment
+//! variable `GVOZDYANA_LIB_DIR` names by its whole path, else in the repository's `target/staticlib`.
 //!
 //! ```
-//! use gvozdyana::follower::{Event, State};
-//! use gvozdyana::header::{lay_in, write, Header};
-//! use gvozdyana::place::{report, Report};
-//!
-//! let mut frame = [0; 26];
-//! (frame[0], frame[1], frame[25]) = (0x1A, 0xF7, 0x10);
-//! let reading = gvozdyana::frame::read(&frame)?;
-//! assert_eq!(reading.places, 1);
-//! assert!(reading.record.warned(15));
-//! assert_eq!(report(&reading.record)?, Report::AreasOnly);
-//! assert_eq!(State::default().follow(&frame).1, Event::Begins);
-//!
-//! let mut header = write(&Header::default())?;
-//! lay_in(&mut header, &frame)?;
-//! assert_eq!(header[99..101], [0x1A, 0xF7]);
-//! # Ok::<(), gvozdyana::Refusal>(())
+#![doc = include_str!("../examples/warning.rs")]
 //! ```
+#![deny(missing_docs)]
+
+#[doc(hidden)]
 pub mod calls;
 pub mod capture;
 mod crc;

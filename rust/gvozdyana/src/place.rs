@@ -1,23 +1,30 @@
 //! The place in degrees and kilometres, and the desk's place as field values.
-use crate::frame::{Record, RECORD_VALUES};
+use crate::frame::Record;
 use crate::{calls, told, Refusal};
 
-/// Latitude and longitude in degrees, negative for south and west, and depth in kilometres.
+/// A place in degrees and kilometres.
 #[derive(Clone, Copy, Debug, PartialEq)]
 pub struct Place {
+    /// Degrees, negative for south; minus zero is a southern 0.
     pub latitude: f64,
+    /// Degrees, negative for west.
     pub longitude: f64,
+    /// Kilometres.
     pub depth: f64,
 }
 
-/// The same as a record's fields.
-#[derive(Clone, Copy, Debug, Default, PartialEq, Eq, Hash)]
+/// A place as the record's fields of the same names.
+#[derive(Clone, Copy, Debug, PartialEq, Eq, Hash)]
 pub struct Fields {
+    /// 1 bit: 0 north, 1 south.
     pub south: u64,
-    /// In tenths of a degree, as is the longitude.
+    /// 10 bits: tenths of a degree, 0 to 900.
     pub latitude: u64,
+    /// 1 bit: 0 east, 1 west.
     pub west: u64,
+    /// 11 bits: tenths of a degree, 0 to 1800.
     pub longitude: u64,
+    /// 10 bits: kilometres.
     pub depth: u64,
 }
 
@@ -26,28 +33,37 @@ pub struct Fields {
 pub enum Report {
     /// Of no information.
     Nothing,
+    /// Of page 1, kind 0.
     Place(Place),
+    /// Of page 1, kind 1.
     Cancellation,
+    /// Of page 0: [`Record::warned_areas`] tells them.
     AreasOnly,
 }
 
 /// What a record reports. Refuses 6, then 10, then 9, as the writer does.
 ///
 /// ```
-/// use gvozdyana::frame::Record;
-/// use gvozdyana::place::{report, Place, Report};
+/// use gvozdyana::follower::Update;
+/// use gvozdyana::frame::{Identification, Record, Warning};
+/// use gvozdyana::place::{report, Fields, Place, Report};
 /// use gvozdyana::Refusal;
 ///
-/// let mut record = Record { page: 1, south: 1, latitude: 356, longitude: 1397, depth: 40, ..Record::default() };
+/// let warning = Warning {
+///     identification: Identification::WarningWithArea,
+///     update: Update::new(0).unwrap(),
+///     time: 1000,
+/// };
+/// let fields = Fields { south: 1, latitude: 356, west: 0, longitude: 1397, depth: 40 };
+/// let mut record = Record::at_place(warning, 7, fields, 990);
 /// let place = Place { latitude: -35.6, longitude: 139.7, depth: 40.0 };
 /// assert_eq!(report(&record), Ok(Report::Place(place)));
 /// record.longitude = 1801;
 /// assert_eq!(report(&record), Err(Refusal::OverLimit));
 /// ```
 pub fn report(record: &Record) -> Result<Report, Refusal> {
-    let values: [u64; RECORD_VALUES] = (*record).into();
     let mut place = [0.0; 3];
-    Ok(match told(calls::report(&values, &mut place))? {
+    Ok(match told(calls::report(&record.values(), &mut place))? {
         0 => Report::Nothing,
         1 => {
             let [latitude, longitude, depth] = place;
@@ -63,7 +79,8 @@ pub fn report(record: &Record) -> Result<Report, Refusal> {
     })
 }
 
-/// The desk's place as fields. Refuses 11 unless each double has the very bits of an allowed field value's image.
+/// The desk's place as fields. Refuses 11 unless each double has the very bits of an allowed field value's image (latitude 0 to 900 tenths, longitude
+/// 0 to 1800, both signs; depth 0 to 1023).
 ///
 /// ```
 /// use gvozdyana::place::{fields, Fields, Place};

@@ -5,6 +5,7 @@ use crate::{calls, told, Refusal, FRAME_BYTES};
 pub struct Repaired {
     /// B17 to B203 at their places, and 0 elsewhere.
     pub word: [u8; FRAME_BYTES],
+    /// The number of repaired places, 0 to 8.
     pub places: u8,
 }
 

@@ -149,7 +149,7 @@ fn reports_of_all_sorts() {
 #[test]
 fn places_come_back() {
     for_each_seed(24, frames() / 5, |random, case| {
-        let record = Record::from(legal_record(Body::Place, random));
+        let record = Record::from_values(legal_record(Body::Place, random));
         let Ok(Report::Place(place)) = report(&record) else {
             panic!("{record:?}, {case}");
         };
