@@ -1,0 +1,265 @@
+//! The names and numbers here are those of the C header, include/gvozdyana.h, which is read as text.
+use gvozdyana::capture::{source, Tuner};
+use gvozdyana::follower::{State, Update};
+use gvozdyana::frame::{write, Identification, Record, Warning, AREAS, FRAME_VALUES};
+use gvozdyana::header::{Header, HEADER_VALUES};
+use gvozdyana::place::{fields, report, Fields, Place};
+use gvozdyana::{calls, Refusal, FRAME_BYTES, HEADER_BYTES};
+use std::fmt::Debug;
+
+const HEADER_FILE: &str = include_str!("../../../include/gvozdyana.h");
+
+/// What an enum of the header file declares, names without the prefix.
+fn declared(name: &str, prefix: &str) -> Vec<(String, u64)> {
+    let first = format!("enum {name} {{");
+    let lines = HEADER_FILE.lines().skip_while(|line| *line != first);
+    let declarations = lines.take_while(|line| !line.starts_with('}'));
+    let numbers = declarations.filter_map(|line| {
+        let (name, rest) = line.trim().strip_prefix(prefix)?.split_once(" = ")?;
+        let number = rest.split([',', ' ']).next()?;
+        Some((name.to_string(), number.parse().expect("a number")))
+    });
+    numbers.collect()
+}
+
+/// The text of a `#define`.
+fn defined(name: &str) -> &'static str {
+    let mut lines = HEADER_FILE.lines();
+    let text = lines.find_map(|line| line.strip_prefix(&format!("#define {name} ")));
+    text.unwrap_or_else(|| panic!("{name} is not defined"))
+}
+
+/// `WrongLength` or `latitude` as C writes it, `WRONG_LENGTH` or `LATITUDE`; what a case carries is left out.
+fn c_name(name: &str) -> String {
+    let mut text = String::new();
+    let letters = name.chars().take_while(|c| c.is_alphabetic() || *c == '_');
+    for (i, letter) in letters.enumerate() {
+        if letter.is_uppercase() && i > 0 {
+            text.push('_');
+        }
+        text.push(letter.to_ascii_uppercase());
+    }
+    text
+}
+
+/// The fields of a struct and the first number of each, as `{:?}` writes them.
+fn shown(value: impl Debug) -> Vec<(String, u64)> {
+    let text = format!("{value:?}");
+    let words: Vec<&str> = text.split([' ', ',', '[', ']']).collect();
+    let words: Vec<&str> = words.into_iter().filter(|word| !word.is_empty()).collect();
+    let pairs = words.windows(2).filter_map(|pair| {
+        let name = pair[0].strip_suffix(':')?;
+        Some((c_name(name), pair[1].parse().expect("a number")))
+    });
+    pairs.collect()
+}
+
+fn warning() -> Warning {
+    Warning {
+        identification: Identification::WarningWithArea,
+        update: Update::new(1).expect("0 to 3"),
+        time: 1000,
+    }
+}
+
+const PLACE: Place = Place {
+    latitude: -35.6,
+    longitude: 139.7,
+    depth: 40.0,
+};
+
+#[test]
+fn the_version() {
+    let version = env!("CARGO_PKG_VERSION");
+    assert_eq!(defined("GVZ_VERSION"), format!("{version:?}"));
+    let parts = ["MAJOR", "MINOR", "PATCH"].map(|part| defined(&format!("GVZ_VERSION_{part}")));
+    assert_eq!(parts.join("."), version);
+}
+
+#[test]
+fn the_sizes() {
+    for (name, number) in [
+        ("GVZ_FRAME_BYTES", FRAME_BYTES),
+        ("GVZ_FRAME_VALUES", FRAME_VALUES),
+        ("GVZ_AREAS", AREAS as usize),
+        ("GVZ_CABLE_BYTES", HEADER_BYTES),
+        ("GVZ_CABLE_VALUES", HEADER_VALUES),
+        ("GVZ_PLACE_VALUES", 3),
+        ("GVZ_DESK_VALUES", 5),
+    ] {
+        assert_eq!(defined(name), number.to_string(), "{name}");
+    }
+}
+
+/// Every function that is declared there is called here, and no other.
+#[test]
+fn the_functions() {
+    let names = |text: &'static str, start: &str| {
+        let lines = text.lines().map(str::trim);
+        let declared = lines.filter_map(|line| line.strip_prefix(start));
+        let mut names: Vec<&str> = declared.filter_map(|rest| rest.split('(').next()).collect();
+        names.sort();
+        names
+    };
+    let called = names(include_str!("../src/calls.rs"), "pub fn gvz_");
+    assert_eq!(names(HEADER_FILE, "uint32_t gvz_"), called);
+    assert_eq!(called.len(), 15);
+}
+
+#[test]
+fn the_refusals() {
+    for number in 0..=255 {
+        assert_eq!(
+            Refusal::from_number(number).map(Refusal::number),
+            (1..=15).contains(&number).then_some(number)
+        );
+    }
+    let mut expected = vec![("NONE".to_string(), 0)];
+    expected.extend((1..=15).map(|number| {
+        let refusal = Refusal::from_number(number).expect("1 to 15");
+        (c_name(&format!("{refusal:?}")), number.into())
+    }));
+    assert_eq!(declared("gvz_refusal", "GVZ_REFUSAL_"), expected);
+}
+
+#[test]
+fn the_fields_of_a_record() {
+    let record = Record::from_values(std::array::from_fn(|i| i as u64));
+    let expected = declared("gvz_record_index", "GVZ_RECORD_");
+    assert_eq!(shown(record), expected);
+    assert_eq!(expected.len(), FRAME_VALUES);
+}
+
+/// The identifiers, which are in turn, are two fields here.
+#[test]
+fn the_fields_of_a_header() {
+    let header = Header::from_values(std::array::from_fn(|i| i as u64));
+    let mut fields = shown(header);
+    let at = fields.iter().position(|(name, _)| name == "STREAMS");
+    let at = at.expect("the stream ids");
+    fields[at].0 = "IDENTIFIERS".to_string();
+    let networks = fields.remove(at + 1);
+    assert_eq!(networks, ("NETWORKS".to_string(), fields[at].1 + 1));
+    assert_eq!(fields, declared("gvz_header_index", "GVZ_HEADER_"));
+}
+
+#[test]
+fn the_identifications() {
+    use Identification::*;
+    let warnings = [
+        WarningWithArea,
+        WarningWithoutArea,
+        TestWithArea,
+        TestWithoutArea,
+    ];
+    let named = |of: Identification| (c_name(&format!("{of:?}")), of.number());
+    let mut expected = Vec::from(warnings.map(named));
+    let no_information = Record::no_information(5).identification;
+    expected.push(("NO_INFORMATION".to_string(), no_information));
+    let numbers = declared("gvz_identification", "GVZ_IDENTIFICATION_");
+    assert_eq!(numbers, expected);
+}
+
+/// The name of what is told with types, beside the number that the archive tells.
+fn told(typed: impl Debug, number: u32) -> (String, u64) {
+    (c_name(&format!("{typed:?}")), number.into())
+}
+
+#[test]
+fn the_events_and_states() {
+    let with_update = |number| {
+        let update = Update::new(number).expect("0 to 3");
+        let warning = Warning {
+            update,
+            ..warning()
+        };
+        write(&Record::cancellation(warning, 7)).expect("legal")
+    };
+    let quiet = write(&Record::no_information(5)).expect("legal");
+    let real = State::Real(warning().update);
+    let events = [
+        (State::Quiet, &quiet),
+        (real, &quiet),
+        (State::Quiet, &with_update(1)),
+        (real, &with_update(1)),
+        (real, &with_update(2)),
+        (real, &with_update(3)),
+        (real, &[0; 26]),
+    ]
+    .map(|(state, frame)| {
+        let number = calls::follow(state.number(), frame) >> 8 & 255;
+        told(state.follow(frame).1, number)
+    });
+    assert_eq!(declared("gvz_event", "GVZ_EVENT_"), events);
+    assert_eq!(defined("GVZ_STATE_QUIET"), "0u");
+    assert_eq!(defined("GVZ_STATE_REAL(u)"), "(4u + (u))");
+    assert_eq!(defined("GVZ_STATE_TEST(u)"), "(8u + (u))");
+    let numbers = [real, State::Test(warning().update), State::Quiet].map(State::number);
+    assert_eq!(numbers, [5, 9, 0]);
+}
+
+#[test]
+fn the_reports() {
+    let fields = fields(PLACE).expect("an image");
+    let cases = [
+        Record::no_information(5),
+        Record::at_place(warning(), 7, fields, 990),
+        Record::cancellation(warning(), 7),
+        Record::for_areas(warning(), [15]).expect("0 to 55"),
+    ]
+    .map(|record| {
+        let status = calls::report(&record.values(), &mut [0.0; 3]);
+        told(report(&record).expect("legal"), status >> 8)
+    });
+    assert_eq!(declared("gvz_report_case", "GVZ_REPORT_"), cases);
+}
+
+#[test]
+fn the_tuners() {
+    let frame = write(&Record::no_information(5)).expect("legal");
+    let captures: [(&[u8], &[u8]); 3] = [(&[], &[]), (&frame, &[]), (&[], &frame)];
+    let sources = captures.map(|(main, spare)| source(main, spare, 0));
+    assert_eq!(sources, [None, Some(Tuner::Main), Some(Tuner::Spare)]);
+    let tuners = captures.map(|(main, spare)| {
+        let number = calls::capture_source(main, spare, 0);
+        match source(main, spare, 0) {
+            None => ("NEITHER".to_string(), number.into()),
+            Some(tuner) => told(tuner, number),
+        }
+    });
+    assert_eq!(declared("gvz_tuner", "GVZ_TUNER_"), tuners);
+}
+
+/// A place's doubles and the desk's field values stand where the header file says.
+#[test]
+fn the_places() {
+    let expected = Fields {
+        south: 1,
+        latitude: 356,
+        west: 0,
+        longitude: 1397,
+        depth: 40,
+    };
+    let mut values = [0; 5];
+    assert_eq!(calls::desk(-35.6, 139.7, 40.0, &mut values), 0);
+    let desk = declared("gvz_desk_index", "GVZ_DESK_");
+    let named = desk
+        .iter()
+        .map(|(name, i)| (name.clone(), values[*i as usize]));
+    assert_eq!(shown(expected), named.collect::<Vec<_>>());
+    let record = Record::at_place(warning(), 7, expected, 990);
+    let mut doubles = [0.0; 3];
+    assert_eq!(calls::report(&record.values(), &mut doubles), 256);
+    let place = declared("gvz_place_index", "GVZ_PLACE_");
+    let at = |name: &str| {
+        let (_, i) = place
+            .iter()
+            .find(|(declared, _)| declared == name)
+            .expect("declared");
+        doubles[*i as usize]
+    };
+    assert_eq!(place.len(), 3);
+    assert_eq!(at("LATITUDE"), PLACE.latitude);
+    assert_eq!(at("LONGITUDE"), PLACE.longitude);
+    assert_eq!(at("DEPTH"), PLACE.depth);
+}
