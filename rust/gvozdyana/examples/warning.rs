@@ -12,7 +12,7 @@ fn main() -> Result<(), gvozdyana::Refusal> {
     };
     let sent = Record::for_areas(warning, [14, 15]).expect("0 to 55");
     let mut frame = frame::write(&sent)?;
-    // B71, which belongs to area 15, Tokyo.
+    // On the way B71 is hit, which belongs to area 15, Tokyo.
     frame[8] ^= 0x01;
 
     let reading = frame::read(&frame)?;

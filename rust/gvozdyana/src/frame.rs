@@ -111,7 +111,7 @@ impl Record {
         }
     }
 
-    /// A warning for these areas and no others; none where an area is above 55.
+    /// A warning, or a test, for these areas and no others; `None` where an area is above 55.
     ///
     /// ```
     /// use gvozdyana::follower::Update;
