@@ -14,13 +14,14 @@ use Rattle.gf2.proofs.Sum.{length-add, add-to-zeros}
 use Rattle.dsc.specs.Code.{CodeWord, weight, dist}
 use Rattle.dsc.specs.CheckTable.{differences, coefficient, failures}
 use Rattle.dsc.specs.Repair.{protected, wordBytes, refusedWith, repairOf}
-use Rattle.dsc.specs.Promises.{Hit, RefusedOrWrong, refused, wrong, firstTen}
+use Rattle.dsc.specs.Promises.{HitWord, RefusedOrWrong, refused, wrong, firstTen}
+use Rattle.dsc.specs.declared.Answer.{Answer}
 use Rattle.dsc.proofs.Word.{length-word}
 use Rattle.dsc.proofs.Distance.{Hits, hits, error-failures, dist-triangle, dist-hit, distance18}
 use Rattle.dsc.proofs.Decoding.{Nearest, one, none, nearest}
 use Rattle.dsc.proofs.Answers.{length-protected, length-wordBytes, protected-wordBytes, repair-found, repair-none}
 
-pub held : (c e : List Bool) → CodeWord c → length e ≡ 187 → Hit (weight e) c e (wordBytes (add e c))
+pub held : (c e : List Bool) → CodeWord c → length e ≡ 187 → HitWord (weight e) c e (wordBytes (add e c))
 held c e k l =
     record {
       size = length-wordBytes (add e c);
@@ -30,7 +31,7 @@ held c e k l =
       received = protected-wordBytes (add e c) (length-add e c ∙ length-word c k);
     }
 
-module _ {n : ℕ} {c e : List Bool} {f : List ℕ} (h : Hit n c e f) where
+module _ {n : ℕ} {c e : List Bool} {f : List ℕ} (h : HitWord n c e f) where
   pub from-sent : dist (protected f) c ≡ n
   from-sent = ap (λ r. dist r c) (h .received) ∙ dist-hit e c (h .places ∙ sym (length-word c (h .sent))) ∙ h .number
 
@@ -48,17 +49,28 @@ module _ {n : ℕ} {c e : List Bool} {f : List ℕ} (h : Hit n c e f) where
         = dist-triangle (protected f) c d (r ∙ sym (length-word c (h .sent))) (r ∙ sym (length-word d k)) in
         omega (arith, from-sent)
 
-  -- what follows for the count of a wrong word
-  pub refused-or-wrong : {P : ℕ → Type 0} → 9 ≤ n → ((m : ℕ) → m ≤ 8 → 18 ≤ n + m → P m) → RefusedOrWrong P c (repairOf f)
-  refused-or-wrong {P} l p = go (nearest (protected f) (length-protected f (h .size)))
+  -- what follows for the answer
+  pub refused-or-wrong : 9 ≤ n → RefusedOrWrong (λ m. 18 ≤ n + m) c (repairOf f)
+  refused-or-wrong l = go (nearest (protected f) (length-protected f (h .size)))
     where
-      go : Nearest (protected f) → RefusedOrWrong P c (repairOf f)
-      go (one d k w) = wrong d (dist (protected f) d) k (not-sent l d k w) (p (dist (protected f) d) w (from-other l d k w)) w (repair-found f (h .size) d k w)
+      go : Nearest (protected f) → RefusedOrWrong (λ m. 18 ≤ n + m) c (repairOf f)
+      go (one d k w) = wrong d (dist (protected f) d) k (not-sent l d k w) (from-other l d k w) w (repair-found f (h .size) d k w)
       go (none z) = refused (repair-none f (h .size) z)
+
+-- ---- what a law of the counts says of another, and where no count is left
+
+module _ {P : ℕ → Type 0} {c : List Bool} {a : Answer} where
+  pub counted : {Q : ℕ → Type 0} → ((m : ℕ) → m ≤ 8 → P m → Q m) → RefusedOrWrong P c a → RefusedOrWrong Q c a
+  counted q (refused e) = refused e
+  counted q (wrong d m k ne p l e) = wrong d m k ne (q m l p) l e
+
+  pub only-refused : ((m : ℕ) → m ≤ 8 → P m → ⊥) → RefusedOrWrong P c a → a ≡ refusedWith 4
+  only-refused q (refused e) = e
+  only-refused q (wrong d m k ne p l e) = absurd (q m l p)
 
 -- ---- the zero word: a frame holds the places in which it was hit
 
-pub zero-hit : {n : ℕ} {e : List Bool} {f : List ℕ} → Hit n (zeros 187) e f → protected f ≡ e
+pub zero-hit : {n : ℕ} {e : List Bool} {f : List ℕ} → HitWord n (zeros 187) e f → protected f ≡ e
 zero-hit {e = e} h = h .received ∙ ap (λ n. add e (zeros n)) (sym (h .places)) ∙ add-to-zeros e
 
 -- ---- B17 to B26: ten of the rows through B17 fail, so a code word within eight places was hit there, and has 0. It is then within seven
@@ -102,7 +114,7 @@ within-seven true c l e w =
     let n : length rest ≡ 186 = length-add (replicate 9 true ++ zeros 177) c ∙ l in
     absurd (false≢true (sym (ap (λ t. cond t false (coefficient rest 186)) (eq-eqb 186 (length rest) (sym n))) ∙ e))
 
-pub ten-refused : (f : List ℕ) → Hit 10 (zeros 187) firstTen f → repairOf f ≡ refusedWith 4
+pub ten-refused : (f : List ℕ) → HitWord 10 (zeros 187) firstTen f → repairOf f ≡ refusedWith 4
 ten-refused f h =
     repair-none f (h .size) (λ c k w. none-near c k (subst (λ r. dist r c ≤ 8) (zero-hit h) w) (not-sent h (omega arith) c k w))
   where

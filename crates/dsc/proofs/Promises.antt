@@ -8,12 +8,12 @@ use native.Mathlib.Omega.{arith}
 use lib.Dec.{eqb}
 use lib.ListN.{length}
 use borrow.Author.Tests.{eqb-true, eqb-false}
-use Rattle.gf2.specs.Polynomial.{zeros, add}
-use Rattle.gf2.proofs.Sum.{length-add}
-use Rattle.dsc.specs.Code.{CodeWord, weight, dist}
+use Rattle.gf2.specs.Polynomial.{zeros, member, poly, add}
+use Rattle.gf2.proofs.Sum.{length-add, add-to-zeros}
+use Rattle.dsc.specs.Code.{powers, CodeWord, weight, dist}
 use Rattle.dsc.specs.Repair.{protected, wordBytes, decode, repairedTo, answerTo, numberOf, repairOf}
-use Rattle.dsc.specs.Worked.{generatorWord, among}
-use Rattle.dsc.specs.Promises.{NoneWithinEight, Demand3, Hit, BeyondEight, CodeLaws}
+use Rattle.dsc.specs.Worked.{generatorWord, among, firstPlaces}
+use Rattle.dsc.specs.Promises.{NoneWithinEight, Demand3, HitWord, firstTen, BeyondEight, CodeLaws}
 use Rattle.dsc.proofs.Word.{length-word, parity-word, parity-only}
 use Rattle.dsc.proofs.CheckRows.{word-even}
 use Rattle.dsc.proofs.Incidence.{on-seventeen, share-one}
@@ -21,7 +21,7 @@ use Rattle.dsc.proofs.EvenRows.{even-word}
 use Rattle.dsc.proofs.Distance.{dist-hit, dist-same, distance18, only-one}
 use Rattle.dsc.proofs.Encoding.{encoded-word, encoded-message, encoded-only}
 use Rattle.dsc.proofs.Answers.{length-wordBytes, protected-wordBytes, repair-short, repair-decoded, repair-found, repair-none, repairs, repairs-only}
-use Rattle.dsc.proofs.BeyondEight.{held, from-other, refused-or-wrong, zero-hit, ten-refused}
+use Rattle.dsc.proofs.BeyondEight.{held, refused-or-wrong, counted, only-refused, zero-hit, ten-refused}
 use Rattle.dsc.proofs.Worked.{worked}
 
 gives-sent-word : (f : List ℕ) (c e : List Bool) → length f ≡ 26 → CodeWord c → length e ≡ 187 → weight e ≤ 8
@@ -73,26 +73,41 @@ demand3 =
       repaired-is-clean = repaired-is-clean;
     }
 
-ten-wrong : (f : List ℕ) (e : List Bool) → Hit 10 (zeros 187) e f → among e generatorWord ≡ true → repairOf f ≡ repairedTo generatorWord 8
+ten-wrong : (f : List ℕ) (e : List Bool) → HitWord 10 (zeros 187) e f → among e generatorWord ≡ true → repairOf f ≡ repairedTo generatorWord 8
 ten-wrong f e h a =
     let r : protected f ≡ e = zero-hit h in
     worked .example5 f (record { size = h .size; places = ap (λ w. among w generatorWord) r ∙ a; number = ap weight r ∙ h .number })
+
+-- the zero word, hit in the places of e
+zero-held : (n : ℕ) (e : List Bool) → length e ≡ 187 → weight e ≡ n → HitWord n (zeros 187) e (wordBytes e)
+zero-held n e l w =
+    record {
+      size = length-wordBytes e;
+      sent = worked .example1;
+      places = l;
+      number = w;
+      received = protected-wordBytes e l ∙ sym (ap (λ n. add e (zeros n)) (sym l) ∙ add-to-zeros e);
+    }
+
+ten-wrong-some : HitWord 10 (zeros 187) (firstPlaces 10) (wordBytes (firstPlaces 10)) × (among (firstPlaces 10) generatorWord ≡ true)
+unfolding firstPlaces generatorWord powers poly member among
+ten-wrong-some = (zero-held 10 (firstPlaces 10) refl refl, refl)
+
+ten-refused-some : HitWord 10 (zeros 187) firstTen (wordBytes firstTen)
+unfolding firstTen
+ten-refused-some = zero-held 10 firstTen refl refl
 
 pub beyond-eight : BeyondEight
 beyond-eight =
     record {
       held = held;
-      nine = λ f c e h. repair-none f (h .size) (λ d k w. omega (arith, from-other h (omega arith) d k w));
-      ten = λ f c e h. refused-or-wrong h (omega arith) (λ m hi lo. omega arith);
+      nine-or-more = λ n l f c e h. counted (λ m hi lo. omega arith) (refused-or-wrong h (omega arith));
+      nine = λ f c e h. only-refused (λ m hi lo. omega arith) (refused-or-wrong h (omega arith));
+      ten = λ f c e h. counted (λ m hi lo. omega arith) (refused-or-wrong h (omega arith));
       ten-wrong = ten-wrong;
+      ten-wrong-some = ten-wrong-some;
       ten-refused = ten-refused;
-      eleven = λ f c e h. refused-or-wrong h (omega arith) (λ m hi lo. omega arith);
-      twelve = λ f c e h. refused-or-wrong h (omega arith) (λ m hi lo. omega arith);
-      thirteen = λ f c e h. refused-or-wrong h (omega arith) (λ m hi lo. omega arith);
-      fourteen = λ f c e h. refused-or-wrong h (omega arith) (λ m hi lo. omega arith);
-      fifteen = λ f c e h. refused-or-wrong h (omega arith) (λ m hi lo. omega arith);
-      sixteen = λ f c e h. refused-or-wrong h (omega arith) (λ m hi lo. omega arith);
-      seventeen = λ f c e h. refused-or-wrong h (omega arith) (λ m hi lo. omega arith);
+      ten-refused-some = ten-refused-some;
     }
 
 pub code-laws : CodeLaws

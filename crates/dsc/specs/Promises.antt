@@ -4,14 +4,14 @@ use mathlib.Core.Path.{_≡_}
 use mathlib.Core.Bool.{Bool, true, false, _&&_}
 use mathlib.Core.Logic.{_≢_}
 use mathlib.Core.List.{List, _++_}
-use Prim.Native.Nat.{ℕ, _≤_, _<_}
+use Prim.Native.Nat.{ℕ, _+_, _≤_, _<_}
 use lib.ListN.{length, take, replicate}
 use Rattle.gf2.specs.Polynomial.{zeros, member, add}
 use Rattle.dsc.specs.Code.{CodeWord, count, weight, dist, parityOf}
 use Rattle.dsc.specs.CheckTable.{row, upto, syndrome}
 use Rattle.dsc.specs.Repair.{protected, wordBytes, repairedTo, refusedWith, numberOf, repairOf, Repairs}
 use Rattle.dsc.specs.Encoding.{messageOf, encodeOf}
-use Rattle.dsc.specs.Worked.{generatorWord, among}
+use Rattle.dsc.specs.Worked.{generatorWord, among, firstPlaces}
 use Rattle.dsc.specs.declared.Answer.{Answer}
 
 -- no code word differs from r in eight places or fewer
@@ -42,7 +42,7 @@ pub record Demand3 : Type 0 where
 -- ---- more than eight hits
 
 -- the frame f has 26 bytes and holds the code word c, hit in the places of e, which are n
-pub record Hit (n : ℕ) (c e : List Bool) (f : List ℕ) : Type 0 where
+pub record HitWord (n : ℕ) (c e : List Bool) (f : List ℕ) : Type 0 where
   pub size : length f ≡ 26
   pub sent : CodeWord c
   pub places : length e ≡ 187
@@ -56,7 +56,7 @@ pub data RefusedOrWrong (P : ℕ → Type 0) (c : List Bool) (a : Answer) : Type
 
 -- whichever code word was sent, and whichever n places of it were hit: what is then true of it and the answer
 abbrev pub AfterHits : ℕ → (List Bool → Answer → Type 0) → Type 0
-AfterHits n Q = (f : List ℕ) (c e : List Bool) → Hit n c e f → Q c (repairOf f)
+AfterHits n Q = (f : List ℕ) (c e : List Bool) → HitWord n c e f → Q c (repairOf f)
 
 -- B17 to B26
 unfoldable pub firstTen : List Bool
@@ -64,22 +64,19 @@ firstTen = replicate 10 true ++ zeros 177
 
 pub record BeyondEight : Type 0 where
   -- every code word, hit in any places, is held by a frame: no line below speaks of nothing
-  pub held : (c e : List Bool) → CodeWord c → length e ≡ 187 → Hit (weight e) c e (wordBytes (add e c))
-  -- nine hits: always refusal 4
+  pub held : (c e : List Bool) → CodeWord c → length e ≡ 187 → HitWord (weight e) c e (wordBytes (add e c))
+  -- nine hits or more, n of them: refusal 4, or a word that is not the sent one, whose count m makes at least 18 with the hits. So a wrong word has at
+  -- 11 hits a count of at least 7, at 12 of 6, at 13 of 5, at 14 of 4, at 15 of 3, at 16 of 2, at 17 of 1; from 18 on any count up to 8
+  pub nine-or-more : (n : ℕ) → 9 ≤ n → AfterHits n (RefusedOrWrong (λ m. 18 ≤ n + m))
+  -- at nine, then: always refusal 4, since no count is 9
   pub nine : AfterHits 9 (λ c a. a ≡ refusedWith 4)
-  -- ten hits: refusal 4, or a word that is not the sent one, with count exactly 8
+  -- at ten: refusal 4, or a word that is not the sent one, with count exactly 8
   pub ten : AfterHits 10 (RefusedOrWrong (λ m. m ≡ 8))
-  -- both come about with the zero word: any ten of the generator's places (example 5), and B17 to B26
-  pub ten-wrong : (f : List ℕ) (e : List Bool) → Hit 10 (zeros 187) e f → among e generatorWord ≡ true → repairOf f ≡ repairedTo generatorWord 8
-  pub ten-refused : (f : List ℕ) → Hit 10 (zeros 187) firstTen f → repairOf f ≡ refusedWith 4
-  -- 11 to 17 hits: refusal 4, or a word that is not the sent one, with a count of at least 18 less the hits
-  pub eleven : AfterHits 11 (RefusedOrWrong (λ m. 7 ≤ m))
-  pub twelve : AfterHits 12 (RefusedOrWrong (λ m. 6 ≤ m))
-  pub thirteen : AfterHits 13 (RefusedOrWrong (λ m. 5 ≤ m))
-  pub fourteen : AfterHits 14 (RefusedOrWrong (λ m. 4 ≤ m))
-  pub fifteen : AfterHits 15 (RefusedOrWrong (λ m. 3 ≤ m))
-  pub sixteen : AfterHits 16 (RefusedOrWrong (λ m. 2 ≤ m))
-  pub seventeen : AfterHits 17 (RefusedOrWrong (λ m. 1 ≤ m))
+  -- both come about with the zero word: any ten of the generator's places (example 5), and B17 to B26; there are frames with each
+  pub ten-wrong : (f : List ℕ) (e : List Bool) → HitWord 10 (zeros 187) e f → among e generatorWord ≡ true → repairOf f ≡ repairedTo generatorWord 8
+  pub ten-wrong-some : HitWord 10 (zeros 187) (firstPlaces 10) (wordBytes (firstPlaces 10)) × (among (firstPlaces 10) generatorWord ≡ true)
+  pub ten-refused : (f : List ℕ) → HitWord 10 (zeros 187) firstTen f → repairOf f ≡ refusedWith 4
+  pub ten-refused-some : HitWord 10 (zeros 187) firstTen (wordBytes firstTen)
 
 -- the code, its check table and its encoder
 pub record CodeLaws : Type 0 where

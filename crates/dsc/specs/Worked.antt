@@ -3,11 +3,11 @@
 use mathlib.Core.Path.{_≡_}
 use mathlib.Core.Bool.{Bool, true, false, not, _&&_, _||_}
 use mathlib.Core.List.{List, [], _∷_}
-use Prim.Native.Nat.{ℕ}
-use lib.ListN.{length}
+use Prim.Native.Nat.{ℕ, _≤_}
+use lib.ListN.{length, take}
 use Rattle.gf2.specs.Polynomial.{zeros, poly}
 use Rattle.dsc.specs.Code.{powers, CodeWord, weight}
-use Rattle.dsc.specs.Repair.{protected, repairedTo, refusedWith, repairOf}
+use Rattle.dsc.specs.Repair.{protected, wordBytes, repairedTo, refusedWith, repairOf}
 
 -- the generator as 187 bits
 unfoldable pub generatorWord : List Bool
@@ -18,6 +18,10 @@ unfoldable pub among : List Bool → List Bool → Bool
 among [] w = true
 among (a ∷ e) [] = false
 among (a ∷ e) (b ∷ w) = (not a || b) && among e w
+
+-- the generator's first n places, by their highest powers
+unfoldable pub firstPlaces : ℕ → List Bool
+firstPlaces n = poly 187 (take n powers)
 
 -- a frame of 26 bytes in whose protected part n places are set, all of them places of the generator
 pub record SomePlaces (n : ℕ) (f : List ℕ) : Type 0 where
@@ -32,8 +36,9 @@ pub record Worked : Type 0 where
   -- 2. the generator itself is a code word with 18 ones
   pub example2 : CodeWord generatorWord
   pub example2-ones : weight generatorWord ≡ 18
-  -- 3. eight of its 18 places set: repaired to zeros, count 8
+  -- 3. eight of its 18 places set: repaired to zeros, count 8; there are such frames, for this example and the next two
   pub example3 : (f : List ℕ) → SomePlaces 8 f → repairOf f ≡ repairedTo (zeros 187) 8
+  pub example3-some : (n : ℕ) → n ≤ 18 → SomePlaces n (wordBytes (firstPlaces n))
   -- 4. nine of them: refusal 4
   pub example4 : (f : List ℕ) → SomePlaces 9 f → repairOf f ≡ refusedWith 4
   -- 5. ten of them: repaired to the generator, count 8

@@ -13,6 +13,7 @@ examples =
       example2 = code.worked .example2;
       example2-ones = code.worked .example2-ones;
       example3 = code.worked .example3;
+      example3-some = code.worked .example3-some;
       example4 = code.worked .example4;
       example5 = code.worked .example5;
       example6 = crc-examples .example6;

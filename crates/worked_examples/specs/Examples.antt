@@ -1,15 +1,15 @@
 -- Document 01's starred worked examples, 1 to 10, gathered under a single claim and stated of the written definitions. Assumes nothing.
 use mathlib.Core.Path.{_≡_}
 use mathlib.Core.List.{List, [], _∷_}
-use Prim.Native.Nat.{ℕ, _<_}
+use Prim.Native.Nat.{ℕ, _≤_, _<_}
 use lib.ListN.{length, replicate}
 use Rattle.bits.specs.Bits.{bitsOf}
 use Rattle.gf2.specs.Polynomial.{zeros}
 use Rattle.crc.specs.Crc.{crc10}
 use Rattle.crc.specs.Examples.{covered}
 use Rattle.dsc.specs.Code.{CodeWord, weight}
-use Rattle.dsc.specs.Repair.{protected, repairedTo, refusedWith, repairOf}
-use Rattle.dsc.specs.Worked.{generatorWord, SomePlaces}
+use Rattle.dsc.specs.Repair.{protected, wordBytes, repairedTo, refusedWith, repairOf}
+use Rattle.dsc.specs.Worked.{generatorWord, firstPlaces, SomePlaces}
 use Rattle.frame.specs.Read.{readOf}
 use Rattle.frame.specs.Write.{Legal, recordRefusal, frameOf}
 use Rattle.frame.specs.Worked.{PlaceAt, placeAt}
@@ -28,8 +28,9 @@ pub record Examples : Type 0 where
   -- 2. the generator itself is a code word with 18 ones
   pub example2 : CodeWord generatorWord
   pub example2-ones : weight generatorWord ≡ 18
-  -- 3. eight of its 18 places set, whichever: repaired to zeros, count 8
+  -- 3. eight of its 18 places set, whichever: repaired to zeros, count 8; there are such frames, for this example and the next two
   pub example3 : (f : List ℕ) → SomePlaces 8 f → repairOf f ≡ repairedTo (zeros 187) 8
+  pub example3-some : (n : ℕ) → n ≤ 18 → SomePlaces n (wordBytes (firstPlaces n))
   -- 4. nine of them: refusal 4
   pub example4 : (f : List ℕ) → SomePlaces 9 f → repairOf f ≡ refusedWith 4
   -- 5. ten of them: repaired to the generator, count 8
