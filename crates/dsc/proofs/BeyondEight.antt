@@ -9,6 +9,7 @@ use native.Mathlib.Nat.{suc-inj}
 use native.Mathlib.Omega.{arith}
 use lib.ListN.{length, replicate}
 use borrow.Author.Tests.{eq-eqb}
+use Rattle.bits.specs.Bits.{digit}
 use Rattle.gf2.specs.Polynomial.{zeros, add}
 use Rattle.gf2.proofs.Sum.{length-add, add-to-zeros}
 use Rattle.dsc.specs.Code.{CodeWord, weight, dist}
@@ -77,7 +78,7 @@ zero-hit {e = e} h = h .received ∙ ap (λ n. add e (zeros n)) (sym (h .places)
 -- ---- places of B18 to B26, and these are nine from the zero word.
 
 ten-rows : failures firstTen 186 ≡ 10
-unfolding firstTen differences
+unfolding firstTen differences digit
 ten-rows = refl
 
 length-firstTen : length firstTen ≡ 187
@@ -102,12 +103,12 @@ unfolding nextNine
 length-nextNine = refl
 
 nine-ones : dist nextNine (zeros 187) ≡ 9
-unfolding add nextNine
+unfolding add nextNine digit
 nine-ones = refl
 
 within-seven : (b : Bool) (c : List Bool) → length c ≡ 186 → coefficient (add firstTen (b ∷ c)) 186 ≡ true → dist firstTen (b ∷ c) ≤ 8
     → dist nextNine (b ∷ c) ≤ 7
-unfolding firstTen nextNine add
+unfolding firstTen nextNine add digit
 within-seven false c l e w = omega arith
 within-seven true c l e w =
     let rest : List Bool = add (replicate 9 true ++ zeros 177) c in

@@ -14,7 +14,8 @@ use Rattle.bits.proofs.Computed.{and-left, and-right, T-not, eqb-same, below, b
 use Rattle.gf2.specs.Polynomial.{_⊕_, zeros, add, scale, mul, poly, member}
 use Rattle.gf2.proofs.Sum.{xor-cross, and-xor, length-add, add-zeros, add-shifted}
 use Rattle.gf2.proofs.Division.{length-mul}
-use Rattle.dsc.specs.Code.{powers, generatorLow, CodeWord, count, bit}
+use Rattle.bits.specs.Bits.{digit}
+use Rattle.dsc.specs.Code.{powers, generatorLow, CodeWord, count}
 use Rattle.dsc.specs.CheckTable.{differences, row, rowsOf, coefficient, sumOver, syndrome}
 use Rattle.dsc.proofs.Word.{length-low}
 
@@ -44,12 +45,12 @@ sum-same n f g (d ∷ ds) t e =
 
 pub count-map : (f : ℕ → Bool) (h : ℕ → ℕ) (ds : List ℕ) → count f (map h ds) ≡ count (λ d. f (h d)) ds
 count-map f h [] = refl
-count-map f h (d ∷ ds) = ap (bit (f (h d)) +_) (count-map f h ds)
+count-map f h (d ∷ ds) = ap (digit (f (h d)) +_) (count-map f h ds)
 
 pub count-same : (n : ℕ) (f g : ℕ → Bool) (ds : List ℕ) → T (allBelow n ds) → ((d : ℕ) → d < n → f d ≡ g d) → count f ds ≡ count g ds
 count-same n f g [] t e = refl
 count-same n f g (d ∷ ds) t e =
-    ap₂ (λ b k. bit b + k) (e d (ltb→lt d n (and-left (ltb d n) (allBelow n ds) t))) (count-same n f g ds (and-right (ltb d n) (allBelow n ds) t) e)
+    ap₂ (λ b k. digit b + k) (e d (ltb→lt d n (and-left (ltb d n) (allBelow n ds) t))) (count-same n f g ds (and-right (ltb d n) (allBelow n ds) t) e)
 
 pub differences-below : T (allBelow 273 differences)
 unfolding differences
@@ -219,7 +220,7 @@ shares x = cond (eqb x 0) 17 1
 
 -- each distance but 0 is the difference of two members of the set in one way only
 difference-test : T (below 273 (λ x. eqb (count (λ d. isDifference ((d + x) % 273)) differences) (shares x)))
-unfolding below isDifference differences
+unfolding below isDifference differences digit
 difference-test = tt
 
 shared : (p n : ℕ) → p < 273 → n < 273 → count (λ s. onRow s n) (rowsOf p) ≡ shares ((p + 273 - n) % 273)

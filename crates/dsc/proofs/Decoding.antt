@@ -7,6 +7,7 @@ use Prim.Native.Nat.{ℕ, zero, suc, _≤_}
 use native.Mathlib.Nat.{suc-inj}
 use native.Mathlib.Omega.{arith}
 use lib.ListN.{length}
+use Rattle.bits.specs.Bits.{digit}
 use Rattle.gf2.specs.Polynomial.{add}
 use Rattle.dsc.specs.Code.{CodeWord, dist, isCodeWord}
 use Rattle.dsc.specs.Repair.{ball, Decoded, corrected, beyond, firstCodeWord, decode}
@@ -46,12 +47,12 @@ abbrev Within : ℕ → List Bool → List Bool → Type 0
 Within t r w = (length w ≡ length r) × (dist r w ≤ t)
 
 within-same : (t : ℕ) (b : Bool) (r w : List Bool) → Within t r w → Within t (b ∷ r) (b ∷ w)
-unfolding add
+unfolding add digit
 within-same t true r w h = (ap suc (h .0), omega (arith, h .1))
 within-same t false r w h = (ap suc (h .0), omega (arith, h .1))
 
 within-other : (t : ℕ) (b : Bool) (r w : List Bool) → Within t r w → Within (suc t) (b ∷ r) (not b ∷ w)
-unfolding add
+unfolding add digit
 within-other t true r w h = (ap suc (h .0), omega (arith, h .1))
 within-other t false r w h = (ap suc (h .0), omega (arith, h .1))
 
@@ -75,7 +76,7 @@ unfolding ball
 other-first t b r w m = Memᴰ·append-right (map (b ∷_) (ball (suc t) r)) (mem-map (not b ∷_) w (ball t r) m)
 
 in-ball : (t : ℕ) (r w : List Bool) → Within t r w → List·Memᴰ w (ball t r)
-unfolding ball add
+unfolding ball add digit
 in-ball zero [] [] h = List·Memᴰ·head refl
 in-ball (suc t) [] [] h = List·Memᴰ·head refl
 in-ball t [] (a ∷ w) h = absurd (omega (arith, h .0))

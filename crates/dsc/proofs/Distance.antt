@@ -11,7 +11,8 @@ use lib.ListN.{length}
 use borrow.Author.Tests.{eq-eqb, eqb-true, eqb-false}
 use Rattle.gf2.specs.Polynomial.{_⊕_, zeros, add}
 use Rattle.gf2.proofs.Sum.{xor-false, length-add, add-none, add-assoc, add-same, add-to-zeros}
-use Rattle.dsc.specs.Code.{CodeWord, bit, count, weight, dist}
+use Rattle.bits.specs.Bits.{digit}
+use Rattle.dsc.specs.Code.{CodeWord, count, weight, dist}
 use Rattle.dsc.specs.CheckTable.{rowsOf, coefficient, syndrome, failures}
 use Rattle.dsc.proofs.Word.{length-word}
 use Rattle.dsc.proofs.CheckRows.{coefficient-out, coefficient-cons, onRow, syndrome-nil, syndrome-cons, syndrome-false, syndrome-add, word-even, rows-same, shared-one, shared-all}
@@ -23,20 +24,22 @@ pub record Triangle (x y z : ℕ) : Type 0 where
   pub left : x ≤ z + y
   pub right : y ≤ z + x
 
-triangle-bit : (a b : Bool) → Triangle (bit a) (bit b) (bit (a ⊕ b))
-triangle-bit false false = omega arith
-triangle-bit false true = omega arith
-triangle-bit true false = omega arith
-triangle-bit true true = omega arith
+triangle-digit : (a b : Bool) → Triangle (digit a) (digit b) (digit (a ⊕ b))
+unfolding digit
+triangle-digit false false = omega arith
+triangle-digit false true = omega arith
+triangle-digit true false = omega arith
+triangle-digit true true = omega arith
 
 triangle-count : (f g : ℕ → Bool) (xs : List ℕ) → Triangle (count f xs) (count g xs) (count (λ x. f x ⊕ g x) xs)
 triangle-count f g [] = omega arith
 triangle-count f g (x ∷ xs) =
-    let h : Triangle (bit (f x)) (bit (g x)) (bit (f x ⊕ g x)) = triangle-bit (f x) (g x) in
+    let h : Triangle (digit (f x)) (digit (g x)) (digit (f x ⊕ g x)) = triangle-digit (f x) (g x) in
     let t : Triangle (count f xs) (count g xs) (count (λ x. f x ⊕ g x) xs) = triangle-count f g xs in
     omega arith
 
 pub count-none : {A : Type 0} (xs : List A) → count (λ x. false) xs ≡ 0
+unfolding digit
 count-none [] = refl
 count-none (x ∷ xs) = omega (arith, count-none xs)
 
@@ -48,6 +51,7 @@ pub record Hits (e : List Bool) (p : ℕ) : Type 0 where
   pub struck : coefficient e p ≡ true → 18 ≤ failures e p + weight e
 
 pub hits : (e : List Bool) (p : ℕ) → length e ≤ 273 → p < 273 → Hits e p
+unfolding digit
 hits [] p h hp =
     record {
       missed = λ z. omega (arith, rows-same (syndrome []) (λ s. false) p (λ s hs. syndrome-nil s), count-none (rowsOf p));
@@ -94,6 +98,7 @@ error-failures r c h k p =
 -- ---- so a word that is not zero and fails on no row has 18 ones or more
 
 some-bit : (e : List Bool) → 0 < weight e → (p : ℕ) × (p < length e) × (coefficient e p ≡ true)
+unfolding digit
 some-bit [] h = absurd (omega arith)
 some-bit (true ∷ e) h = (length e, omega arith, ap (λ t. cond t true (coefficient e (length e))) (eq-eqb (length e) (length e) refl))
 some-bit (false ∷ e) h = let s = some-bit e (omega arith) in (s .0, omega (arith, s .1), coefficient-cons false e (s .0) ∙ s .2)
@@ -107,7 +112,7 @@ weight18 e h even w =
 -- ---- distances
 
 pub dist-triangle : (r u w : List Bool) → length r ≡ length u → length r ≡ length w → dist u w ≤ dist r u + dist r w
-unfolding add
+unfolding add digit
 dist-triangle [] [] [] h l = omega arith
 dist-triangle [] (a ∷ u) w h l = absurd (omega arith)
 dist-triangle [] [] (b ∷ w) h l = absurd (omega arith)
@@ -115,7 +120,7 @@ dist-triangle (c ∷ r) [] w h l = absurd (omega arith)
 dist-triangle (c ∷ r) (a ∷ u) [] h l = absurd (omega arith)
 dist-triangle (c ∷ r) (a ∷ u) (b ∷ w) h l = omega (arith, first c a b, dist-triangle r u w (suc-inj h) (suc-inj l))
   where
-    first : (c a b : Bool) → bit (a ⊕ b) ≤ bit (c ⊕ a) + bit (c ⊕ b)
+    first : (c a b : Bool) → digit (a ⊕ b) ≤ digit (c ⊕ a) + digit (c ⊕ b)
     first true true b = omega arith
     first true false true = omega arith
     first true false false = omega arith
@@ -124,6 +129,7 @@ dist-triangle (c ∷ r) (a ∷ u) (b ∷ w) h l = omega (arith, first c a b, dis
     first false false b = omega arith
 
 weight-none : (w : List Bool) → weight w ≡ 0 → w ≡ zeros (length w)
+unfolding digit
 weight-none [] e = refl
 weight-none (true ∷ w) e = absurd (omega arith)
 weight-none (false ∷ w) e = ap (false ∷_) (weight-none w (omega arith))
@@ -133,6 +139,7 @@ pub dist-none : (u w : List Bool) → length u ≡ length w → dist u w ≡ 0 �
 dist-none u w h e = add-none u w h (weight-none (add u w) e ∙ ap zeros (length-add u w))
 
 pub dist-same : (w : List Bool) → dist w w ≡ 0
+unfolding digit
 dist-same w = ap weight (add-same w) ∙ zero-weight (length w)
   where
     zero-weight : (n : ℕ) → weight (zeros n) ≡ 0

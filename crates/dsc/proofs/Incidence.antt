@@ -10,7 +10,8 @@ use lib.ListN.{length}
 use borrow.Author.Tests.{ne-eqb, eqb-true, eqb-false}
 use Rattle.bits.proofs.Computed.{and-left, and-right, T-not, T-same, eqb-same, below, below-at, allBelow}
 use Rattle.gf2.specs.Polynomial.{_⊕_, member}
-use Rattle.dsc.specs.Code.{count, bit}
+use Rattle.bits.specs.Bits.{digit}
+use Rattle.dsc.specs.Code.{count}
 use Rattle.dsc.specs.CheckTable.{upto, differences, row, rowsOf, sumOver}
 use Rattle.dsc.proofs.CheckRows.{sum-map, sum-same, differences-below, onRow, onRow-difference, isDifference, rows-same, shared-one}
 
@@ -18,23 +19,26 @@ use Rattle.dsc.proofs.CheckRows.{sum-map, sum-same, differences-below, 
 
 pub count-upto : (n : ℕ) (f g : ℕ → Bool) → ((s : ℕ) → s < n → f s ≡ g s) → count f (upto n) ≡ count g (upto n)
 count-upto zero f g e = refl
-count-upto (suc n) f g e = ap₂ (λ b k. bit b + k) (e n (omega arith)) (count-upto n f g (λ s h. e s (omega arith)))
+count-upto (suc n) f g e = ap₂ (λ b k. digit b + k) (e n (omega arith)) (count-upto n f g (λ s h. e s (omega arith)))
 
 count-off : (n l : ℕ) (q : ℕ → Bool) → n ≤ l → count (λ s. eqb s l && q s) (upto n) ≡ 0
+unfolding digit
 count-off zero l q h = refl
 count-off (suc n) l q h =
-    ap (λ b. bit (b && q n) + count (λ s. eqb s l && q s) (upto n)) (ne-eqb n l (λ e. omega arith)) ∙ omega (arith, count-off n l q (omega arith))
+    ap (λ b. digit (b && q n) + count (λ s. eqb s l && q s) (upto n)) (ne-eqb n l (λ e. omega arith)) ∙ omega (arith, count-off n l q (omega arith))
 
-count-one : (n l : ℕ) (q : ℕ → Bool) → l < n → count (λ s. eqb s l && q s) (upto n) ≡ bit (q l)
+count-one : (n l : ℕ) (q : ℕ → Bool) → l < n → count (λ s. eqb s l && q s) (upto n) ≡ digit (q l)
+unfolding digit
 count-one zero l q h = absurd (omega arith)
 count-one (suc n) l q h = go (eqb n l) refl (count-one n l q)
   where
-    go : (b : Bool) → eqb n l ≡ b → (l < n → count (λ s. eqb s l && q s) (upto n) ≡ bit (q l)) → bit (b && q n) + count (λ s. eqb s l && q s) (upto n) ≡ bit (q l)
-    go true e ih = omega (arith, ap (λ s. bit (q s)) (eqb-true n l e), count-off n l q (omega (arith, eqb-true n l e)))
+    go : (b : Bool) → eqb n l ≡ b → (l < n → count (λ s. eqb s l && q s) (upto n) ≡ digit (q l)) → digit (b && q n) + count (λ s. eqb s l && q s) (upto n) ≡ digit (q l)
+    go true e ih = omega (arith, ap (λ s. digit (q s)) (eqb-true n l e), count-off n l q (omega (arith, eqb-true n l e)))
     go false e ih = let ne : n ≢ l = eqb-false n l e in omega (arith, ih (omega arith))
 
 -- of two tests that never pass together
-apart : (e x q : Bool) → e && x ≡ false → bit ((e ⊕ x) && q) ≡ bit (e && q) + bit (x && q)
+apart : (e x q : Bool) → e && x ≡ false → digit ((e ⊕ x) && q) ≡ digit (e && q) + digit (x && q)
+unfolding digit
 apart true true q h = let z : _≡_ {A = ℕ} 0 1 = cc in absurd (omega arith)
 apart true false true h = refl
 apart true false false h = refl
@@ -48,6 +52,7 @@ count-apart zero e x q h = refl
 count-apart (suc n) e x q h = omega (arith, apart (e n) (x n) (q n) (h n), count-apart n e x q h)
 
 count-never : (n : ℕ) (q : ℕ → Bool) → count (λ s. false && q s) (upto n) ≡ 0
+unfolding digit
 count-never zero q = refl
 count-never (suc n) q = omega (arith, count-never n q)
 
@@ -128,6 +133,7 @@ over-rows p hp q =
     ∙ through p hp q differences differences-below differences-distinct
 
 count-all : (xs : List ℕ) → count (λ s. true) xs ≡ length xs
+unfolding digit
 count-all [] = refl
 count-all (x ∷ xs) = omega (arith, count-all xs)
 

@@ -8,6 +8,7 @@ use native.Mathlib.Omega.{arith}
 use lib.Dec.{eqb}
 use lib.ListN.{length}
 use borrow.Author.Tests.{eqb-true, eqb-false}
+use Rattle.bits.specs.Bits.{digit}
 use Rattle.gf2.specs.Polynomial.{zeros, member, poly, add}
 use Rattle.gf2.proofs.Sum.{length-add, add-to-zeros}
 use Rattle.dsc.specs.Code.{powers, CodeWord, weight, dist}
@@ -90,11 +91,11 @@ zero-held n e l w =
     }
 
 ten-wrong-some : HitWord 10 (zeros 187) (firstPlaces 10) (wordBytes (firstPlaces 10)) × (among (firstPlaces 10) generatorWord ≡ true)
-unfolding firstPlaces generatorWord powers poly member among
+unfolding firstPlaces generatorWord powers poly member among digit
 ten-wrong-some = (zero-held 10 (firstPlaces 10) refl refl, refl)
 
 ten-refused-some : HitWord 10 (zeros 187) firstTen (wordBytes firstTen)
-unfolding firstTen
+unfolding firstTen digit
 ten-refused-some = zero-held 10 firstTen refl refl
 
 pub beyond-eight : BeyondEight

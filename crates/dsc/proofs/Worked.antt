@@ -8,6 +8,7 @@ use native.Mathlib.Omega.{arith}
 use lib.Dec.{eqb, T, eqb→eq}
 use lib.Ieee.Bits.{is-true}
 use lib.ListN.{length}
+use Rattle.bits.specs.Bits.{digit}
 use Rattle.bits.proofs.Computed.{and-left, and-right, below, below-at}
 use Rattle.gf2.specs.Polynomial.{zeros, add, scale, poly, member, remainder}
 use Rattle.gf2.proofs.Sum.{add-to-zeros}
@@ -29,12 +30,12 @@ unfolding isCodeWord allZero remainder add scale generatorLow generatorWord powe
 generator-word = tested-word generatorWord refl refl
 
 generator-ones : weight generatorWord ≡ 18
-unfolding generatorWord powers poly member
+unfolding generatorWord powers poly member digit
 generator-ones = refl
 
 -- from the generator, in those of its places that are not set
 from-among : (r w : List Bool) → length r ≡ length w → among r w ≡ true → dist r w + weight r ≡ weight w
-unfolding add among
+unfolding add among digit
 from-among [] [] h e = refl
 from-among [] (b ∷ w) h e = absurd (omega arith)
 from-among (a ∷ r) [] h e = absurd (omega arith)
@@ -67,7 +68,7 @@ example3 f s =
 
 -- the first places are among the generator's, and as many as asked for
 places-test : T (below 19 (λ n. eqb (weight (firstPlaces n)) n && among (firstPlaces n) generatorWord))
-unfolding below firstPlaces generatorWord powers poly member among
+unfolding below firstPlaces generatorWord powers poly member among digit
 places-test = tt
 
 length-firstPlaces : (n : ℕ) → length (firstPlaces n) ≡ 187

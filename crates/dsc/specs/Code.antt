@@ -6,6 +6,7 @@ use mathlib.Core.Bool.{Bool, true, false, not, _&&_}
 use mathlib.Core.List.{List, [], _∷_}
 use Prim.Native.Nat.{ℕ, _+_}
 use lib.ListN.{length}
+use Rattle.bits.specs.Bits.{digit}
 use Rattle.gf2.specs.Polynomial.{add, mul, poly, remainder, checkBits}
 
 -- the powers of x in the generator
@@ -25,14 +26,10 @@ pub record CodeWord (w : List Bool) : Type 0 where
 
 -- ---- counting
 
-abbrev pub bit : Bool → ℕ
-bit true = 1
-bit false = 0
-
 module _ {A : Type 0} where
   abbrev pub count : (A → Bool) → List A → ℕ
   count f [] = 0
-  count f (x ∷ xs) = bit (f x) + count f xs
+  count f (x ∷ xs) = digit (f x) + count f xs
 
 -- how many bits of a word are 1
 abbrev pub weight : List Bool → ℕ

@@ -13,7 +13,6 @@ use lib.Seq.{getD-append-add, getD-take, getD-drop, drop-drop, take-suc}
 use Rattle.bits.specs.Bits.{digit, value, bits, bytes}
 use Rattle.bits.proofs.Bits.{value-snoc, value-take-lt}
 use Rattle.gf2.specs.Polynomial.{zeros}
-use Rattle.dsc.specs.Code.{bit}
 use Rattle.dsc.specs.Repair.{protected}
 use Rattle.dsc_bits.specs.Words.{at, padded}
 
@@ -21,11 +20,6 @@ pub digit-set : (b : Bool) → eqb (digit b) 1 ≡ b
 unfolding digit
 digit-set true = refl
 digit-set false = refl
-
-pub digit-bit : (b : Bool) → bit b ≡ digit b
-unfolding digit
-digit-bit true = refl
-digit-bit false = refl
 
 -- bit n of the protected part is B(17 + n)
 pub protected-at : (f : List ℕ) (n : ℕ) → n < 187 → at (protected f) n ≡ at (bits f) (17 + n)

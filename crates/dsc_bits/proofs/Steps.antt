@@ -12,7 +12,8 @@ use borrow.Author.Tests.{eqb-true, eqb-false}
 use lib.Seq.{drop-cons, ext-getD, getD-set-same, getD-set-other}
 use Rattle.gf2.specs.Polynomial.{_⊕_, add}
 use Rattle.gf2.proofs.Sum.{xor-false, xor-assoc}
-use Rattle.dsc.specs.Code.{count, bit, dist}
+use Rattle.bits.specs.Bits.{digit}
+use Rattle.dsc.specs.Code.{count, dist}
 use Rattle.dsc.specs.CheckTable.{differences, row, rowsOf, sumOver}
 
 -- `a != b`
@@ -39,18 +40,18 @@ module _ (f : ℕ → Bool) (xs : List ℕ) (i : ℕ) where
   pub sum-done : (sum total : Bool) → length xs ≤ i → sum ⊕ sumOver f (drop i xs) ≡ total → sum ≡ total
   sum-done sum total h inv = sym (ap (λ l. sum ⊕ sumOver f l) (drop-of-length-le xs h) ∙ xor-false sum) ∙ inv
 
-  pub count-next : (n x total : ℕ) → i < length xs → x ≡ bit (f (getD xs i 0)) → n + count f (drop i xs) ≡ total → n + x + count f (drop (i + 1) xs) ≡ total
+  pub count-next : (n x total : ℕ) → i < length xs → x ≡ digit (f (getD xs i 0)) → n + count f (drop i xs) ≡ total → n + x + count f (drop (i + 1) xs) ≡ total
   count-next n x total h e inv = omega (arith, ap (count f) (next xs i 0 h))
 
   pub count-done : (n total : ℕ) → length xs ≤ i → n + count f (drop i xs) ≡ total → n ≡ total
   count-done n total h inv = omega (arith, ap (count f) (drop-of-length-le xs h))
 
 module _ (u w : List Bool) (i : ℕ) where
-  pub dist-next : (n x total : ℕ) → i < length u → i < length w → x ≡ bit (not (Bool·beq (getD u i false) (getD w i false)))
+  pub dist-next : (n x total : ℕ) → i < length u → i < length w → x ≡ digit (not (Bool·beq (getD u i false) (getD w i false)))
       → n + dist (drop i u) (drop i w) ≡ total → n + x + dist (drop (i + 1) u) (drop (i + 1) w) ≡ total
   unfolding add
   dist-next n x total h k e inv =
-      omega (arith, ap₂ dist (next u i false h) (next w i false k), ap bit (ne-xor (getD u i false) (getD w i false)))
+      omega (arith, ap₂ dist (next u i false h) (next w i false k), ap digit (ne-xor (getD u i false) (getD w i false)))
 
   pub dist-done : (n total : ℕ) → length u ≤ i → length w ≤ i → n + dist (drop i u) (drop i w) ≡ total → n ≡ total
   unfolding add

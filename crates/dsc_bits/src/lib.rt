@@ -6,7 +6,7 @@ ghost use mathlib.Core.Path.{_≡_};
 ghost use Prim.Native.Nat.{_+_, _*_, _<_, _≤_};
 ghost use lib.ListN.{length, take, drop};
 ghost use Rattle.bits.specs.Bits.{value, bits, digit};
-ghost use Rattle.dsc.specs.Code.{bit, dist};
+ghost use Rattle.dsc.specs.Code.{dist};
 ghost use Rattle.dsc.specs.Repair.{protected, wordBytes, refusedWith, repairedTo};
 ghost use Rattle.dsc_bits.specs.Words.{at, padded};
 
@@ -38,7 +38,7 @@ pub fn received(f: &[u8]) -> [bool; 187]
 }
 
 pub fn one(b: bool) -> u8
-    ensures { λ r. ⌜ (r ≡ bit b) × (r ≤ 1) ⌝ }
+    ensures { λ r. ⌜ (r ≡ digit b) × (r ≤ 1) ⌝ }
 {
     if b { 1 } else { 0 }
 }

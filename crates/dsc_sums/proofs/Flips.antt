@@ -10,7 +10,8 @@ use lib.ListN.{length}
 use Rattle.gf2.specs.Polynomial.{add}
 use Rattle.gf2.proofs.Sum.{xor-self}
 use Rattle.lanes.specs.Lane.{lane}
-use Rattle.dsc.specs.Code.{bit, count, dist}
+use Rattle.bits.specs.Bits.{digit}
+use Rattle.dsc.specs.Code.{count, dist}
 use Rattle.dsc.specs.CheckTable.{failures, upto}
 use Rattle.dsc.specs.Majority.{flipped}
 use Rattle.dsc.proofs.Incidence.{count-upto}
@@ -47,4 +48,4 @@ module _ (w : List Bool) where
   pub flips-last : (u : List Bool) → dist u (flipped w u) ≡ flips w (length u)
   unfolding flips add
   flips-last [] = refl
-  flips-last (b ∷ u) = ap₂ (λ t k. bit t + k) (xor-self b (leb 9 (failures w (length u)))) (flips-last u)
+  flips-last (b ∷ u) = ap₂ (λ t k. digit t + k) (xor-self b (leb 9 (failures w (length u)))) (flips-last u)

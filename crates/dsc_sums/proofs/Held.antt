@@ -11,10 +11,9 @@ use Rattle.bits.specs.Bits.{digit}
 use Rattle.bits.proofs.Computed.{allBelow}
 use Rattle.lanes.specs.Lane.{lane, bitAt, setIn}
 use Rattle.lanes.proofs.Windows.{Fit, window, lane-window}
-use Rattle.dsc.specs.Code.{bit, count}
+use Rattle.dsc.specs.Code.{count}
 use Rattle.dsc.specs.CheckTable.{differences, rowsOf}
 use Rattle.dsc.proofs.CheckRows.{count-map, count-same}
-use Rattle.dsc_bits.proofs.Octets.{digit-bit}
 use Rattle.dsc_sums.specs.Sums.{movedOn, Wrapped, MovedMajority}
 
 -- ---- a count of windows, in the shape that the code has
@@ -22,7 +21,7 @@ use Rattle.dsc_sums.specs.Sums.{movedOn, Wrapped, MovedMajority}
 module _ (ws : List ℕ) (fit : Fit ws) (i : ℕ) (h : i < 64) where
   pub set-windows : (ps : List ℕ) → setIn i (map (window ws) ps) ≡ count (movedOn ws i) ps
   set-windows [] = refl
-  set-windows (p ∷ ps) = ap₂ _+_ (ap digit (lane-window ws fit i h p) ∙ sym (digit-bit (bitAt ws (i + p)))) (set-windows ps)
+  set-windows (p ∷ ps) = ap₂ _+_ (ap digit (lane-window ws fit i h p)) (set-windows ps)
 
 -- ---- words that hold a row of 273 bits, f, which begins again after the last
 

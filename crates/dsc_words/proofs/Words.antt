@@ -19,10 +19,9 @@ use Rattle.gf2.proofs.Sum.{add-append}
 use Rattle.lanes.specs.Lane.{lane, bitAt}
 use Rattle.lanes.proofs.Lanes.{lane-past}
 use Rattle.lanes.proofs.Number.{add-bitsOf}
-use Rattle.dsc.specs.Code.{bit, count, weight}
+use Rattle.dsc.specs.Code.{count, weight}
 use Rattle.dsc.specs.CheckTable.{coefficient, upto}
 use Rattle.dsc.proofs.CheckRows.{coefficient-at, coefficient-out}
-use Rattle.dsc_bits.proofs.Octets.{digit-bit}
 use Rattle.dsc_words.specs.Words.{wordOf, held}
 use Rattle.dsc_words.specs.declared.Word.{Word}
 
@@ -137,8 +136,8 @@ weight-bitsOf : (k v : ℕ) → weight (bitsOf k v) ≡ ones (v % 2 ^ k)
 unfolding bitsOf
 weight-bitsOf zero v = sym (ap ones (mod-one v) ∙ ones-digit 0 (omega arith))
 weight-bitsOf (suc k) v =
-    let first : bit (odd (v / 2 ^ k)) ≡ ones (v / 2 ^ k % 2) =
-    digit-bit (odd (v / 2 ^ k)) ∙ digit-odd (v / 2 ^ k) ∙ sym (ones-digit (v / 2 ^ k % 2) (omega arith)) in
+    let first : digit (odd (v / 2 ^ k)) ≡ ones (v / 2 ^ k % 2) =
+    digit-odd (v / 2 ^ k) ∙ sym (ones-digit (v / 2 ^ k % 2) (omega arith)) in
     ap₂ _+_ first (weight-bitsOf k v)
     ∙ sym
     (ap (λ n. ones (v % 2 ^ n)) (let e : suc k ≡ 1 + k = omega arith in e)
@@ -167,4 +166,4 @@ count-lanes k v h = row k ∙ weight-whole k v h
   where
     row : (k : ℕ) → count (lane v) (upto k) ≡ weight (bitsOf k v)
     row zero = refl
-    row (suc k) = ap (bit (lane v k) +_) (row k)
+    row (suc k) = ap (digit (lane v k) +_) (row k)

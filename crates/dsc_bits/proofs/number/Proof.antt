@@ -8,7 +8,7 @@ use lib.ListN.{take, drop}
 use lib.Pow.{pow-mono}
 use Rattle.bits.specs.Bits.{value}
 use Rattle.bits.proofs.Bits.{value-take-lt}
-use Rattle.dsc_bits.proofs.Octets.{digit-bit, value-next}
+use Rattle.dsc_bits.proofs.Octets.{value-next}
 use Rattle.dsc_bits.proofs.number.Statement.{statement}
 use Rattle.dsc_bits.proofs.number.Tie as tie
 
@@ -58,7 +58,7 @@ loop-again c =
     let a = c .before .before .before in
     let s = a .before .before in (
       omega arith,
-      ap₂ (λ x y. x * 2 + y) (a .loop .inv .1) (c .one .ensures .0 ∙ digit-bit _) ∙ sym (value-next (s .args .b .now) (s .args .k) (a .loop .i) (omega arith)),
+      ap₂ (λ x y. x * 2 + y) (a .loop .inv .1) (c .one .ensures .0) ∙ sym (value-next (s .args .b .now) (s .args .k) (a .loop .i) (omega arith)),
     )
 
 returns : tie.Need-returns Inv-loop μ-loop

@@ -5,7 +5,7 @@ use Prim.Native.Nat.{ℕ, _+_, _-_}
 use native.Mathlib.Omega.{arith}
 use Rattle.bits.specs.Bits.{digit}
 use Rattle.dsc_bits.specs.Words.{at, padded}
-use Rattle.dsc_bits.proofs.Octets.{digit-bit, padded-before, padded-word, padded-after}
+use Rattle.dsc_bits.proofs.Octets.{padded-before, padded-word, padded-after}
 use borrow.Author.Needs.{needs}
 use Rattle.dsc_bits.proofs.padded_bit.Statement.{statement}
 use Rattle.dsc_bits.proofs.padded_bit.Tie as tie
@@ -30,7 +30,7 @@ returns-2 c =
     let s = c .before .before .before .before .before in
     let w = s .args .w .now in
     let k = s .args .k in (
-      c .one .ensures .0 ∙ digit-bit _ ∙ sym (ap digit (ap (at (padded w)) (let e : k ≡ 17 + (k - 17) = omega arith in e) ∙ padded-word w (s .pre) (k - 17) (omega arith))),
+      c .one .ensures .0 ∙ sym (ap digit (ap (at (padded w)) (let e : k ≡ 17 + (k - 17) = omega arith in e) ∙ padded-word w (s .pre) (k - 17) (omega arith))),
       c .one .ensures .1,
     )
 

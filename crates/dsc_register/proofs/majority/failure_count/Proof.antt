@@ -4,7 +4,8 @@ use mathlib.Core.Path.{_≡_, _∙_, sym, ap}
 use Prim.Native.Nat.{_≤_, _-_, _+_, _%_}
 use native.Mathlib.Omega.{arith}
 use lib.ListN.{drop, getD}
-use Rattle.dsc.specs.Code.{count, bit}
+use Rattle.bits.specs.Bits.{digit}
+use Rattle.dsc.specs.Code.{count}
 use Rattle.dsc.specs.CheckTable.{differences, rowsOf, syndrome, failures}
 use Rattle.dsc_bits.proofs.Steps.{count-next, count-done, length-rows, rows-at}
 use Rattle.dsc_register.specs.Register.{decidedPlace}
@@ -48,7 +49,7 @@ loop-again c =
       omega (arith, c .one .ensures .1),
       count-next (syndrome s) (rowsOf decidedPlace) (a .loop .i) (a .loop .n) (c .one .result) _ (omega (arith, length-rows decidedPlace))
           (c .one .ensures .0
-          ∙ ap bit (c .before .check-sum .ensures ∙ ap (syndrome s) (q ∙ sym (rows-at decidedPlace (a .loop .i) (omega arith)))))
+          ∙ ap digit (c .before .check-sum .ensures ∙ ap (syndrome s) (q ∙ sym (rows-at decidedPlace (a .loop .i) (omega arith)))))
           (a .loop .inv .2),
     )
 
