@@ -126,7 +126,7 @@ onRow-through s p hs hp =
 -- ---- the facts
 
 -- what is counted over the rows that hold p, is counted over the 17 rows p + d
-over-rows : (p : ℕ) → p < 273 → (q : ℕ → Bool) → count (λ s. member p (row s) && q s) (upto 273) ≡ count q (rowsOf p)
+pub over-rows : (p : ℕ) → p < 273 → (q : ℕ → Bool) → count (λ s. member p (row s) && q s) (upto 273) ≡ count q (rowsOf p)
 over-rows p hp q =
     count-upto 273 (λ s. member p (row s) && q s) (λ s. sumOver (eqb s) (rowsOf p) && q s)
     (λ s hs. ap (_&& q s) (member-onRow s p hs hp ∙ onRow-through s p hs hp))

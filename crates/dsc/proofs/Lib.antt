@@ -1,5 +1,6 @@
 pub mod Word
 pub mod CheckRows
+pub mod TableRows
 pub mod Incidence
 pub mod EvenRows
 pub mod Distance

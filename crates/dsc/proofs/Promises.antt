@@ -17,6 +17,7 @@ use Rattle.dsc.specs.Worked.{generatorWord, among, firstPlaces}
 use Rattle.dsc.specs.Promises.{NoneWithinEight, Demand3, HitWord, firstTen, BeyondEight, CodeLaws}
 use Rattle.dsc.proofs.Word.{length-word, parity-word, parity-only}
 use Rattle.dsc.proofs.CheckRows.{word-even}
+use Rattle.dsc.proofs.TableRows.{table-row}
 use Rattle.dsc.proofs.Incidence.{on-seventeen, share-one}
 use Rattle.dsc.proofs.EvenRows.{even-word}
 use Rattle.dsc.proofs.Distance.{dist-hit, dist-same, distance18, only-one}
@@ -115,6 +116,7 @@ pub code-laws : CodeLaws
 code-laws =
     record {
       distance = distance18;
+      table-row = table-row;
       even = word-even;
       rows-decide = even-word;
       seventeen-rows = on-seventeen;

@@ -5,7 +5,7 @@ use mathlib.Core.Bool.{Bool, false, cond}
 use mathlib.Core.List.{List, [], _∷_, map}
 use Prim.Native.Nat.{ℕ, zero, suc, _+_, _-_, _*_, _%_, _<_}
 use lib.Dec.{eqb}
-use lib.ListN.{length, getD}
+use lib.ListN.{length, getD, take, drop}
 use Rattle.gf2.specs.Polynomial.{_⊕_}
 use Rattle.dsc.specs.Code.{count}
 
@@ -25,6 +25,10 @@ rowsOf p = map (λ d. (p + d) % 273) differences
 pub record CheckTable (t : List ℕ) : Type 0 where
   pub size : length t ≡ 4641
   pub rule : (s i : ℕ) → s < 273 → i < 17 → getD t (s * 17 + i) 0 ≡ (s + 273 - getD differences i 0) % 273
+
+-- row s of a table: its 17 places
+abbrev pub rowAt : List ℕ → ℕ → List ℕ
+rowAt t s = take 17 (drop (s * 17) t)
 
 -- ---- the sums on the rows
 

@@ -8,7 +8,7 @@ use Prim.Native.Nat.{ℕ, _+_, _≤_, _<_}
 use lib.ListN.{length, take, replicate}
 use Rattle.gf2.specs.Polynomial.{zeros, member, add}
 use Rattle.dsc.specs.Code.{CodeWord, count, weight, dist, parityOf}
-use Rattle.dsc.specs.CheckTable.{row, upto, syndrome}
+use Rattle.dsc.specs.CheckTable.{row, CheckTable, rowAt, upto, syndrome}
 use Rattle.dsc.specs.Repair.{protected, wordBytes, repairedTo, refusedWith, numberOf, repairOf, Repairs}
 use Rattle.dsc.specs.Encoding.{messageOf, encodeOf}
 use Rattle.dsc.specs.Worked.{generatorWord, among, firstPlaces}
@@ -66,7 +66,7 @@ pub record BeyondEight : Type 0 where
   -- every code word, hit in any places, is held by a frame: no line below speaks of nothing
   pub held : (c e : List Bool) → CodeWord c → length e ≡ 187 → HitWord (weight e) c e (wordBytes (add e c))
   -- nine hits or more, n of them: refusal 4, or a word that is not the sent one, whose count m makes at least 18 with the hits. So a wrong word has at
-  -- 11 hits a count of at least 7, at 12 of 6, at 13 of 5, at 14 of 4, at 15 of 3, at 16 of 2, at 17 of 1; from 18 on any count up to 8
+  -- 11 hits a count of at least 7, at 12 of 6, at 13 of 5, at 14 of 4, at 15 of 3, at 16 of 2, at 17 of 1
   pub nine-or-more : (n : ℕ) → 9 ≤ n → AfterHits n (RefusedOrWrong (λ m. 18 ≤ n + m))
   -- at nine, then: always refusal 4, since no count is 9
   pub nine : AfterHits 9 (λ c a. a ≡ refusedWith 4)
@@ -82,6 +82,8 @@ pub record BeyondEight : Type 0 where
 pub record CodeLaws : Type 0 where
   -- two different code words differ in at least 18 places
   pub distance : (c d : List Bool) → CodeWord c → CodeWord d → c ≢ d → 18 ≤ dist c d
+  -- each row of the shipped table, or of another that meets its rule, is the row of that number in the four laws that follow
+  pub table-row : (t : List ℕ) → CheckTable t → (s : ℕ) → s < 273 → rowAt t s ≡ row s
   -- every code word has an even sum on each row, and only code words have
   pub even : (c : List Bool) → CodeWord c → (s : ℕ) → s < 273 → syndrome c s ≡ false
   pub rows-decide : (w : List Bool) → length w ≡ 187 → ((s : ℕ) → s < 273 → syndrome w s ≡ false) → CodeWord w

@@ -2,11 +2,11 @@
 use mathlib.Core.Path.{_≡_, refl, sym, ap, ap₂, _∙_}
 use mathlib.Core.Bool.{Bool, true, false, not, Bool·beq}
 use mathlib.Core.Logic.{_≢_}
-use mathlib.Core.List.{List, [], _∷_, map}
-use Prim.Native.Nat.{ℕ, zero, suc, _+_, _-_, _%_, _≤_, _<_}
+use mathlib.Core.List.{List, _∷_}
+use Prim.Native.Nat.{ℕ, _+_, _-_, _≤_, _<_}
 use native.Mathlib.Numerals.{add-one}
 use native.Mathlib.Omega.{arith}
-use lib.ListN.{length, getD, set, drop, length-set, length-map, drop-of-length-le}
+use lib.ListN.{length, getD, set, drop, length-set, drop-of-length-le}
 use lib.Dec.{eqb}
 use borrow.Author.Tests.{eqb-true, eqb-false}
 use lib.Seq.{drop-cons, ext-getD, getD-set-same, getD-set-other}
@@ -14,7 +14,7 @@ use Rattle.gf2.specs.Polynomial.{_⊕_, add}
 use Rattle.gf2.proofs.Sum.{xor-false, xor-assoc}
 use Rattle.bits.specs.Bits.{digit}
 use Rattle.dsc.specs.Code.{count, dist}
-use Rattle.dsc.specs.CheckTable.{differences, row, rowsOf, sumOver}
+use Rattle.dsc.specs.CheckTable.{sumOver}
 
 -- `a != b`
 pub ne-xor : (a b : Bool) → not (Bool·beq a b) ≡ a ⊕ b
@@ -83,26 +83,3 @@ module _ {A : Type 0} {d : A} {size : ℕ} {g : ℕ → A} {xs : List A} where
 -- filled with the elements of l
 pub filled-list : {A : Type 0} {d : A} {size n : ℕ} {xs : List A} (l : List A) → Filled d size (λ k. getD l k d) n xs → size ≤ n → length l ≡ size → xs ≡ l
 filled-list {d} {xs} l f h e = ext-getD d xs l (omega (arith, f .long)) (λ k hk. filled-all f h k (omega (arith, f .long)))
-
--- ---- rows by index
-
-getD-map : (h : ℕ → ℕ) (xs : List ℕ) (i : ℕ) → i < length xs → getD (map h xs) i 0 ≡ h (getD xs i 0)
-getD-map h [] i l = absurd (omega arith)
-getD-map h (x ∷ xs) zero l = refl
-getD-map h (x ∷ xs) (suc i) l = getD-map h xs i (omega arith)
-
-pub length-differences : length differences ≡ 17
-unfolding differences
-length-differences = refl
-
-pub length-row : (s : ℕ) → length (row s) ≡ 17
-length-row s = length-map differences (λ d. (s + 273 - d) % 273) ∙ length-differences
-
-pub row-at : (s i : ℕ) → i < 17 → getD (row s) i 0 ≡ (s + 273 - getD differences i 0) % 273
-row-at s i h = getD-map (λ d. (s + 273 - d) % 273) differences i (omega (arith, length-differences))
-
-pub length-rows : (p : ℕ) → length (rowsOf p) ≡ 17
-length-rows p = length-map differences (λ d. (p + d) % 273) ∙ length-differences
-
-pub rows-at : (p i : ℕ) → i < 17 → getD (rowsOf p) i 0 ≡ (p + getD differences i 0) % 273
-rows-at p i h = getD-map (λ d. (p + d) % 273) differences i (omega (arith, length-differences))

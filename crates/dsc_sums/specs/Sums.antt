@@ -17,13 +17,13 @@ use Rattle.dsc_sums.specs.declared.errors.Pattern.the-variants as patter
 
 -- ---- the sums on the check rows
 
--- the word moved on by 256 places: the coefficient of x^(n - 256)
-abbrev pub movedBy256 : List Bool → ℕ → Bool
-movedBy256 w n = cond (ltb n 256) false (coefficient w (n - 256))
+-- the coefficient of x^n in x^d times w
+abbrev pub timesPower : ℕ → List Bool → ℕ → Bool
+timesPower d w n = cond (ltb n d) false (coefficient w (n - d))
 
 -- the coefficient of x^n in the product of w and the sum of x^d over the differences d
 abbrev pub product : List Bool → ℕ → Bool
-product w n = sumOver (λ d. movedBy256 w (n + 256 - d)) differences
+product w n = sumOver (λ d. timesPower d w n) differences
 
 -- x is limb k of that product: 64 coefficients
 pub record Limb (w : List Bool) (k x : ℕ) : Type 0 where

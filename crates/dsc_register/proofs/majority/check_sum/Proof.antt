@@ -6,7 +6,8 @@ use native.Mathlib.Omega.{arith}
 use lib.ListN.{drop}
 use Rattle.gf2.specs.Polynomial.{_⊕_}
 use Rattle.dsc.specs.CheckTable.{sumOver, row, coefficient, syndrome}
-use Rattle.dsc_bits.proofs.Steps.{sum-next, sum-done, length-row, row-at}
+use Rattle.dsc.proofs.TableRows.{length-row, row-at}
+use Rattle.dsc_bits.proofs.Steps.{sum-next, sum-done}
 use Rattle.dsc_register.proofs.majority.check_sum.Statement.{statement}
 use Rattle.dsc_register.proofs.majority.check_sum.Tie as tie
 

@@ -7,7 +7,8 @@ use lib.ListN.{drop, getD}
 use Rattle.bits.specs.Bits.{digit}
 use Rattle.dsc.specs.Code.{count}
 use Rattle.dsc.specs.CheckTable.{differences, rowsOf, syndrome, failures}
-use Rattle.dsc_bits.proofs.Steps.{count-next, count-done, length-rows, rows-at}
+use Rattle.dsc.proofs.TableRows.{length-rows, rows-at}
+use Rattle.dsc_bits.proofs.Steps.{count-next, count-done}
 use Rattle.dsc_register.specs.Register.{decidedPlace}
 use Rattle.dsc_register.proofs.majority.failure_count.Statement.{statement}
 use Rattle.dsc_register.proofs.majority.failure_count.Tie as tie
