@@ -26,8 +26,8 @@ fn mend(received: Word, middle: MiddleSums, errors: Word, places: u8) -> Found
     if ((middle.rows128 ^ theirs.rows128) | (middle.rows192 ^ theirs.rows192)) != 0 {
         return Found::Far;
     }
-    let repaired = dsc_words::sum(received, errors);
-    Found::Near(repaired, places)
+    let mended = dsc_words::sum(received, errors);
+    Found::Near(mended, places)
 }
 
 // The code word within eight places of 187 received bits.

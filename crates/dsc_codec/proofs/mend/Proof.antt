@@ -30,7 +30,7 @@ returns-2 c =
     let t = c .before .before .before .before .before .before in
     let s = t .before in
     let x = s .args in (
-      c .sum .ensures .0,
+      search needs,
       ap (λ u. repairedTo u (x .places)) (c .sum .ensures .1)
           ∙ mended (length-held (x .received)) (length-held (x .errors)) (s .pre .2) (t .middle-sums .ensures) (c .before .if1 .left),
     )
