@@ -12,7 +12,8 @@ use Rattle.dsc.specs.Repair.{repairOf}
 use Rattle.dsc_register.specs.Register.{loaded, registerWord, registerRepairOf}
 
 pub record RegisterEngine : Type 0 where
-  -- whatever bytes arrive: the answer of demand 3, and the same number of places, which the shipped repair gives too
+  -- document 02 i), the same answer and count on every word: whatever bytes arrive, the register comes to `repairOf`, an answer that holds word and count.
+  -- The contract of `dsc_codec::repair`, the shipped engine, equates its answer with `repairOf`, and so does that of `repair` here
   pub same-answer : (f : List ℕ) → registerRepairOf f ≡ repairOf f
   -- whichever 187 bits arrive, and however many of them were hit: the word that the majority over the check table gives
   pub same-word : (r : List Bool) → length r ≡ 187 → registerWord r ≡ flipped r r

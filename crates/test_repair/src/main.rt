@@ -74,15 +74,6 @@ fn one(b: bool) -> u64
     if b { 1 } else { 0 }
 }
 
-// How many of 18 choices of n of the generator's places are answered with `expected`.
-fn choices(n: usize, expected: u64) -> u64 {
-    let mut good: u64 = 0;
-    for i in 0..18 {
-        good += one(number(some_places(i, n)) == expected);
-    }
-    good
-}
-
 // A code word: some message, encoded.
 fn encoded(seed: usize) -> [u8; 26] {
     let mut f = [0u8; 26];
@@ -106,11 +97,25 @@ fn hit(word: [u8; 26], k: usize, n: usize) -> [u8; 26] {
     f
 }
 
-// How many of 187 runs of n hits, each on another code word, are answered with `expected`.
-fn hits(n: usize, expected: u64) -> u64 {
+// What is hit: the zero word in the generator's places, or a code word in a run of places.
+enum Struck {
+    GeneratorPlaces,
+    Run,
+}
+
+// Sample i of such a frame, hit in n places; each run is on another code word.
+fn sample(struck: Struck, i: usize, n: usize) -> [u8; 26] {
+    match struck {
+        Struck::GeneratorPlaces => some_places(i, n),
+        Struck::Run => hit(encoded(i), i, n),
+    }
+}
+
+// How many of the first samples are answered with `expected`.
+fn answered(struck: Struck, samples: usize, n: usize, expected: u64) -> u64 {
     let mut good: u64 = 0;
-    for k in 0..187 {
-        good += one(number(hit(encoded(k), k, n)) == expected);
+    for i in 0..samples {
+        good += one(number(sample(struck, i, n)) == expected);
     }
     good
 }
@@ -133,14 +138,26 @@ fn main() {
     frame_text::line(Question::Repair, 7, &far);
     told(
         b"eight of the generator's places, repaired in 8, of 18: ",
-        choices(8, 108),
+        answered(Struck::GeneratorPlaces, 18, 8, 108),
     );
-    told(b"nine of them, refused 4, of 18: ", choices(9, 4));
-    told(b"ten of them, repaired in 8, of 18: ", choices(10, 108));
-    told(b"code words, clean, of 187: ", hits(0, 100));
+    told(
+        b"nine of them, refused 4, of 18: ",
+        answered(Struck::GeneratorPlaces, 18, 9, 4),
+    );
+    told(
+        b"ten of them, repaired in 8, of 18: ",
+        answered(Struck::GeneratorPlaces, 18, 10, 108),
+    );
+    told(
+        b"code words, clean, of 187: ",
+        answered(Struck::Run, 187, 0, 100),
+    );
     told(
         b"hit in eight places, repaired in 8, of 187: ",
-        hits(8, 108),
+        answered(Struck::Run, 187, 8, 108),
     );
-    told(b"hit in nine places, refused 4, of 187: ", hits(9, 4));
+    told(
+        b"hit in nine places, refused 4, of 187: ",
+        answered(Struck::Run, 187, 9, 4),
+    );
 }

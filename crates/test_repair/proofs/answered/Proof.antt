@@ -1,20 +1,20 @@
--- `test_repair::choices` is safe and ends. Assumes nothing.
+-- `test_repair::answered` is safe and ends. Assumes nothing.
 use borrow.Author.Needs.{needs}
 use Prim.Native.Nat.{_≤_, _-_}
-use Rattle.test_repair.proofs.choices.Statement.{statement}
-use Rattle.test_repair.proofs.choices.Tie as tie
+use Rattle.test_repair.proofs.answered.Statement.{statement}
+use Rattle.test_repair.proofs.answered.Tie as tie
 
 abbrev Inv-loop : tie.InvT-loop
-Inv-loop n expected good₀ i₀ good i = (i ≤ 18) × (good ≤ i)
+Inv-loop struck samples n expected good₀ i₀ good i = (i ≤ samples) × (good ≤ i)
 
 abbrev μ-loop : tie.MeasureT-loop
-μ-loop n expected good₀ i₀ good i = 18 - i
+μ-loop struck samples n expected good₀ i₀ good i = samples - i
 
 loop-holds : tie.Need-loop-holds Inv-loop μ-loop
 loop-holds c = search needs
 
-some-places-requires : tie.Need-some-places-requires Inv-loop μ-loop
-some-places-requires c κs = search needs
+sample-requires : tie.Need-sample-requires Inv-loop μ-loop
+sample-requires c κs = search needs
 
 number-requires : tie.Need-number-requires Inv-loop μ-loop
 number-requires c κs = search needs
@@ -37,14 +37,14 @@ loop-again c = search needs
 returns : tie.Need-returns Inv-loop μ-loop
 returns c = search needs
 
-pub choices-spec : {M : Type 1} → statement M
-choices-spec =
+pub answered-spec : {M : Type 1} → statement M
+answered-spec =
     tie.close
     (tie.spec
     Inv-loop
     μ-loop
     loop-holds
-    some-places-requires
+    sample-requires
     number-requires
     one-requires
     add-good
