@@ -20,7 +20,7 @@ use Rattle.gf2.specs.Polynomial.{zeros}
 use Rattle.crc.specs.Crc.{crc10, crc10Of}
 use Rattle.crc.proofs.Crc.{length-crc10}
 use Rattle.dsc.specs.Code.{CodeWord, parityOf}
-use Rattle.dsc.specs.Repair.{wordBytes}
+use Rattle.dsc.specs.Repair.{protected, wordBytes}
 use Rattle.dsc.proofs.Word.{length-word, length-parity, parity-word}
 use Rattle.dsc.proofs.Answers.{length-wordBytes, protected-wordBytes}
 use Rattle.frame.specs.Pattern.{patternWord, patternOf}
@@ -119,14 +119,14 @@ flags-right Warning u = rw (eq-eqb u u refl)
 flags-right Silent u = refl
 flags-right Undefined u = rw (eq-eqb u u refl)
 
--- ---- the word of a legal record, as bytes: what the reader finds in it
+-- ---- the word of a record, in the bytes c: what the reader finds in it
 
-module _ (r : Record) where
-  wordParts : let b = recordBody r in let cl = classOf (r .identification) in
-      WordParts (wordBytes (wordOf r)) (bitsOf 2 (startEndOf cl)) (bitsOf 2 (updateOf cl (r .update))) (bitsOf 3 (r .identification))
+module _ (r : Record) (c : List ℕ) (size : length c ≡ 26) (own : protected c ≡ wordOf r) where
+  pub own-parts : let b = recordBody r in let cl = classOf (r .identification) in
+      WordParts c (bitsOf 2 (startEndOf cl)) (bitsOf 2 (updateOf cl (r .update))) (bitsOf 3 (r .identification))
       (pack (widths (layout b)) (bodyValues b r)) (crc10 (announced r))
   unfolding messageBits announced
-  wordParts =
+  own-parts =
       let b = recordBody r in
       let cl = classOf (r .identification) in
       let s = bitsOf 2 (startEndOf cl) in
@@ -134,10 +134,10 @@ module _ (r : Record) where
       let p = parityOf (messageBits r) in
       let d = pack (widths (layout b)) (bodyValues b r) in
       let k = crc10 (announced r) in
-      word-parts (wordBytes (wordOf r)) s u (bitsOf 3 (r .identification)) d k p (length-wordBytes (wordOf r))
+      word-parts c s u (bitsOf 3 (r .identification)) d k p size
       (length-bitsOf 2 (startEndOf cl)) (length-bitsOf 2 (updateOf cl (r .update))) (length-bitsOf 3 (r .identification))
       (length-pack (widths (layout b)) (bodyValues b r) ∙ layout-sum b) (length-crc10 (announced r))
-      (protected-wordBytes (wordOf r) (length-word (wordOf r) (record-word r)) ∙ regroup s u (announced r) k p)
+      (own ∙ regroup s u (announced r) k p)
 
 pub record Found (r : Record) (c : List ℕ) : Type 0 where
   pub identification : identificationIn c ≡ r .identification
@@ -155,7 +155,7 @@ word-found r f =
     let i = r .identification in
     let ws = widths (layout b) in
     let c = wordBytes (wordOf r) in
-    let p = wordParts r in
+    let p = own-parts r c (length-wordBytes (wordOf r)) (protected-wordBytes (wordOf r) (length-word (wordOf r) (record-word r))) in
     let ch = chosen (classOf i) (r .page) (r .kind) in
     let identification : identificationIn c ≡ i = ap value (p .identification) ∙ value-bitsOf-fit 3 i (heads b r f .identification) in
     let bit : (k : ℕ) → k + 1 ≤ 88 → fieldAt c (24 + k) 1 ≡ value (take 1 (drop k (pack ws (bodyValues b r)))) =

@@ -1,6 +1,7 @@
 pub mod Parts
 pub mod Bodies
 pub mod Frames
+pub mod Areas
 pub mod Readings
 pub mod Promises
 pub mod Worked

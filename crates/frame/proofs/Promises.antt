@@ -1,12 +1,12 @@
 -- The promises hold. Assumes nothing.
 use mathlib.Core.Path.{_≡_, refl, sym, ap, ap₂, _∙_, subst}
-use mathlib.Core.Bool.{Bool, true, false}
+use mathlib.Core.Bool.{Bool, true, false, not}
 use mathlib.Core.Logic.{_≢_}
 use mathlib.Core.List.{List, _++_, append-assoc}
-use Prim.Native.Nat.{ℕ, _+_}
+use Prim.Native.Nat.{ℕ, _+_, _≤_, _<_}
 use native.Mathlib.Omega.{arith}
 use lib.Dec.{eqb}
-use lib.ListN.{length, take, drop, length-drop}
+use lib.ListN.{length, take, drop, getD, length-drop}
 use lib.Seq.{take-all}
 use borrow.Author.Tests.{eq-eqb, ne-eqb, eqb-true, eqb-false}
 use Rattle.bits.specs.Bits.{odd, bitsOf, bits, bytes, Bytes}
@@ -23,14 +23,16 @@ use Rattle.dsc.proofs.Answers.{length-protected, protected-wordBytes, repair-fo
 use Rattle.frame.specs.Pattern.{patternWord, patternOf}
 use Rattle.frame.specs.Fields.{recordBody}
 use Rattle.frame.specs.Read.{identificationIn, bodyIn, valuesIn, recordIn, frameRefusal, placesIn, judgeOf, readOf, readingNumber, readingPlaces, cleanOf}
+use Rattle.frame.specs.Area.{warnedIn}
 use Rattle.frame.specs.Write.{Legal, messageBits, recordRefusal, frameOf, writeNumber, writeOf}
-use Rattle.frame.specs.Promises.{SameOutside, Hit, Mended, Demand2}
+use Rattle.frame.specs.Promises.{SameOutside, Hit, Mended, Demand2, AreasOnAir}
 use Rattle.frame.specs.declared.Record.{Record}
 use Rattle.frame.specs.declared.Damage.{Damage}
 use Rattle.frame.specs.declared.Reading.the-variants.{Accepted, Refused}
 use Rattle.frame.proofs.Parts.{outside-split, part-split, part-bits, frame-bits}
 use Rattle.frame.proofs.Bodies.{legal-sound, taken}
 use Rattle.frame.proofs.Frames.{wordOf, record-word, length-frame, parts-frame, found-record, found-accepted, heads, word-pattern, outside}
+use Rattle.frame.proofs.Areas.{warned-on-air}
 use Rattle.frame.proofs.Readings.{Judged, accepted-judged, judged-accepted, judged-places, judged-dist, judged-read, read-legal, read-word}
 
 -- ---- written and read
@@ -179,6 +181,9 @@ module _ (f : List ℕ) (r : Record) (d : Damage) (e : readOf f ≡ Accepted r d
   mended-read : readOf (cleanOf f) ≡ Accepted r (record { repaired = 0 })
   mended-read = ap readOf (sym written-again) ∙ comes-back r read-is-legal
 
+  by-bit : (k : ℕ) → r .identification ≤ 3 → r .page ≡ 0 → k < 56 → warnedIn r k ≡ not (getD (bits (cleanOf f)) (56 + k) false)
+  by-bit k w p h = warned-on-air r w p k h ∙ ap (λ (g : List ℕ). not (getD (bits g) (56 + k) false)) written-again
+
   accepted : frameRefusal f ≡ 0
   accepted = judged-accepted f (known f r d e .judged)
 
@@ -261,3 +266,6 @@ demand2 =
       written = written;
       unchanged = unchanged;
     }
+
+pub areas-on-air : AreasOnAir
+areas-on-air = record { by-bit = λ f r d k e. by-bit f r d e k; tokyo = λ f r d e w p. by-bit f r d e 15 w p (omega arith) }
