@@ -226,17 +226,17 @@ pattern-word (suc (suc p)) h = absurd (omega arith)
 -- and bits that are a pattern are that pattern's
 pub word-pattern : (n : ℕ) → patternOf n ≢ 2 → (patternWord (patternOf n) ≡ n) × (patternOf n < 2)
 unfolding patternOf
-word-pattern n h = go (eqb n 13806) (eqb n 51729) refl refl
+word-pattern n h = go (eqb n (patternWord 0)) (eqb n (patternWord 1)) refl refl
   where
-    go : (s t : Bool) → eqb n 13806 ≡ s → eqb n 51729 ≡ t → (patternWord (patternOf n) ≡ n) × (patternOf n < 2)
-    go true t es et = rw es (sym (eqb-true n 13806 es), omega arith)
-    go false true es et = rw (es, et) (sym (eqb-true n 51729 et), omega arith)
+    go : (s t : Bool) → eqb n (patternWord 0) ≡ s → eqb n (patternWord 1) ≡ t → (patternWord (patternOf n) ≡ n) × (patternOf n < 2)
+    go true t es et = rw es (sym (eqb-true n (patternWord 0) es), omega arith)
+    go false true es et = rw (es, et) (sym (eqb-true n (patternWord 1) et), omega arith)
     go false false es et = absurd (h (rw (es, et)))
 
 patternWord-lt : (p : ℕ) → patternWord p < 65536
 patternWord-lt p = go (eqb p 0)
   where
-    go : (t : Bool) → cond t 13806 51729 < 65536
+    go : (t : Bool) → cond t (patternWord 0) (patternWord 1) < 65536
     go true = omega arith
     go false = omega arith
 

@@ -2,7 +2,7 @@
 use mathlib.Core.Path.{_≡_, refl, sym, ap, ap₂, _∙_, subst}
 use mathlib.Core.Bool.{Bool, true, false, not}
 use mathlib.Core.Logic.{_≢_}
-use mathlib.Core.List.{List, _++_, append-assoc}
+use mathlib.Core.List.{List, [], _++_, append-assoc}
 use Prim.Native.Nat.{ℕ, _+_, _≤_, _<_}
 use native.Mathlib.Omega.{arith}
 use lib.Dec.{eqb}
@@ -21,13 +21,14 @@ use Rattle.dsc.proofs.Word.{length-word}
 use Rattle.dsc.proofs.Distance.{dist-none, dist-same}
 use Rattle.dsc.proofs.Answers.{length-protected, protected-wordBytes, repair-found}
 use Rattle.frame.specs.Pattern.{patternWord, patternOf}
-use Rattle.frame.specs.Fields.{recordBody}
-use Rattle.frame.specs.Read.{identificationIn, bodyIn, valuesIn, recordIn, frameRefusal, placesIn, judgeOf, readOf, readingNumber, readingPlaces, cleanOf}
+use Rattle.frame.specs.Fields.{fields, recordBody}
+use Rattle.frame.specs.Read.{identificationIn, bodyIn, valuesIn, recordIn, frameRefusal, placesIn, judgeOf, readOf, readingNumber, readingPlaces, readingFields, cleanOf}
 use Rattle.frame.specs.Area.{warnedIn}
 use Rattle.frame.specs.Write.{Legal, messageBits, recordRefusal, frameOf, writeNumber, writeOf}
-use Rattle.frame.specs.Promises.{SameOutside, Hit, Mended, Demand2, AreasOnAir}
+use Rattle.frame.specs.Promises.{SameUnprotected, HitFrame, Mended, Told, Demand2, AreasOnAir}
 use Rattle.frame.specs.declared.Record.{Record}
 use Rattle.frame.specs.declared.Damage.{Damage}
+use Rattle.frame.specs.declared.Reading.{Reading}
 use Rattle.frame.specs.declared.Reading.the-variants.{Accepted, Refused}
 use Rattle.frame.proofs.Parts.{outside-split, part-split, part-bits, frame-bits}
 use Rattle.frame.proofs.Bodies.{legal-sound, taken}
@@ -38,7 +39,7 @@ use Rattle.frame.proofs.Readings.{Judged, accepted-judged, judged-accep
 -- ---- written and read
 
 -- a frame that has what stands outside the word of a legal record's frame, and whose word is repaired to that record's
-read-record : (r : Record) (f : List ℕ) (n : ℕ) → Legal r → length f ≡ 26 → SameOutside f (frameOf r) → repairOf f ≡ repairedTo (wordOf r) n
+read-record : (r : Record) (f : List ℕ) (n : ℕ) → Legal r → length f ≡ 26 → SameUnprotected f (frameOf r) → repairOf f ≡ repairedTo (wordOf r) n
     → readOf f ≡ Accepted r (record { repaired = n })
 read-record r f n l h s e =
     let fit = legal-sound r l .fit in
@@ -59,7 +60,7 @@ read-record r f n l h s e =
     ∙ ap₂ (λ (x p : ℕ). Accepted (recordIn x p (wordBytes (wordOf r))) (record { repaired = n })) (o .reference) (o .pattern)
     ∙ ap (λ (y : Record). Accepted y (record { repaired = n })) (found-record r fit)
 
-hit-comes-back : (r : Record) (e : List Bool) (f : List ℕ) → Legal r → Hit r e f → readOf f ≡ Accepted r (record { repaired = weight e })
+hit-comes-back : (r : Record) (e : List Bool) (f : List ℕ) → Legal r → HitFrame r e f → readOf f ≡ Accepted r (record { repaired = weight e })
 hit-comes-back r e f l h =
     read-record r f (weight e) l (h .size) (h .outside)
     (demand3 .gives-sent-word f (wordOf r) e (h .size) (record-word r) (h .places) (h .few) (h .word ∙ ap (add e) (parts-frame r .word)))
@@ -234,6 +235,15 @@ judged-refused f n e = go (eqb (frameRefusal f) 0) refl
         let number : frameRefusal f ≡ n = cc in
         (λ z. ne (number ∙ z), rw (q, number))
 
+-- ---- what is told
+
+told-as : (a b : Reading) → a ≡ b → Told a (readingNumber b) (readingPlaces b) (readingFields b)
+told-as a b e = record { by-number = ap readingNumber e; by-places = ap readingPlaces e; by-fields = ap readingFields e }
+
+number-told : (f : List ℕ) → readingNumber (readOf f) ≡ frameRefusal f
+unfolding judgeOf
+number-told f = sym (judged f .0)
+
 -- ---- what is written
 
 written : (r : Record) (s : List ℕ) → Legal r → length s ≡ 26 → writeOf r s ≡ frameOf r
@@ -253,6 +263,10 @@ demand2 =
     record {
       comes-back = comes-back;
       hit-comes-back = hit-comes-back;
+      told = λ r l. told-as _ _ (comes-back r l);
+      hit-told = λ r e f l h. told-as _ _ (hit-comes-back r e f l h);
+      number-told = number-told;
+      refused-told = λ f n. told-as _ _ (refused-read f n);
       written-again = written-again;
       mended = mended;
       undamaged = undamaged;

@@ -2,7 +2,7 @@
 use mathlib.Core.Path.{_≡_, refl, ap, ap₂, _∙_, subst}
 use mathlib.Core.Bool.{Bool, true, false, not, _||_}
 use mathlib.Core.Logic.{_≢_}
-use mathlib.Core.List.{List, [], _∷_}
+use mathlib.Core.List.{List, [], _∷_, map}
 use Prim.Native.Nat.{ℕ, _<_}
 use native.Mathlib.Omega.{arith}
 use lib.Dec.{eqb, ltb, T}
@@ -15,13 +15,13 @@ use Rattle.bits.proofs.Computed.{below, below-at, T-not}
 use Rattle.bits.proofs.Layouts.{fitb-fit}
 use Rattle.bits.proofs.Refusal.{refusal-here, refusal-later, refusal-append-given}
 use Rattle.dsc.specs.Repair.{numberOf, repairOf}
-use Rattle.frame.specs.Pattern.{patternOf}
+use Rattle.frame.specs.Pattern.{patternWord, patternOf}
 use Rattle.frame.specs.Identification.{classOf, isUndefined}
 use Rattle.frame.specs.Fields.{fields, fieldWidths, recordBody, overLimit}
 use Rattle.frame.specs.Area.{warnedIn}
 use Rattle.frame.specs.Read.{beforeRepair, afterRepair, frameRefusal, readOf}
 use Rattle.frame.specs.Write.{Legal, recordRefusal, frameOf}
-use Rattle.frame.specs.Worked.{PlaceAt, placeAt, Worked, areaRecord}
+use Rattle.frame.specs.Worked.{AtLatitude, atLatitude, Worked, areaRecord}
 use Rattle.frame.specs.declared.Class.{Class}
 use Rattle.frame.specs.declared.Body.{Body}
 use Rattle.frame.specs.declared.Body.the-variants.{PlacePage}
@@ -35,7 +35,7 @@ use Rattle.frame.proofs.Promises.{comes-back, repair-own, refused-read}
 place-known : {c : Class} {p k : ℕ} → Chosen c p k PlacePage → isUndefined c ≡ false
 place-known (place e n) = refl
 
-module _ (n : ℕ) (r : Record) (a : PlaceAt n r) where
+module _ (n : ℕ) (r : Record) (a : AtLatitude n r) where
   known : isUndefined (classOf (r .identification)) ≡ false
   known = place-known (subst (Chosen (classOf (r .identification)) (r .page) (r .kind)) (a .body) (chosen (classOf (r .identification)) (r .page) (r .kind)))
 
@@ -48,14 +48,14 @@ module _ (n : ℕ) (r : Record) (a : PlaceAt n r) where
       ap (λ (b : Body). overLimit b (r .latitude) (r .longitude)) (a .body)
       ∙ ap₂ (λ (m : ℕ) (t : Bool). ltb 900 m || t) (a .latitude) (le-ltb 1800 (r .longitude) (a .longitude))
 
-legal : (r : Record) → PlaceAt 900 r → Legal r
+legal : (r : Record) → AtLatitude 900 r → Legal r
 legal r a = sound-legal r (record { known = known 900 r a; fit = fit 900 r a; limits = limits 900 r a })
 
-not-written : (r : Record) → PlaceAt 901 r → recordRefusal r ≡ 9
+not-written : (r : Record) → AtLatitude 901 r → recordRefusal r ≡ 9
 unfolding recordRefusal
 not-written r a = refusal-later 6 _ (known 901 r a) ∙ refusal-later 10 _ (a .fit) ∙ refusal-here 9 [] (limits 901 r a)
 
-not-read : (r : Record) → PlaceAt 901 r → readOf (frameOf r) ≡ Refused 9
+not-read : (r : Record) → AtLatitude 901 r → readOf (frameOf r) ≡ Refused 9
 not-read r a =
     let f = frameOf r in
     let g = fit 901 r a in
@@ -65,8 +65,8 @@ not-read r a =
     ∙ found-refusal r g (known 901 r a) ∙ refusal-here 9 [] (limits 901 r a) in
     refused-read f (λ z. omega arith) ∙ ap Refused e
 
-some : (n : ℕ) → n < 1024 → PlaceAt n (placeAt n)
-unfolding placeAt classOf fieldWidths
+some : (n : ℕ) → n < 1024 → AtLatitude n (atLatitude n)
+unfolding atLatitude classOf fieldWidths
 some n h = record { body = refl; fit = rw (lt-ltb n 1024 h); longitude = omega arith; latitude = refl }
 
 zero-bytes : readOf (replicate 26 0) ≡ Refused 3
@@ -98,9 +98,14 @@ tokyo : warnedIn (areaRecord 0xFFFEFFFFFFFFFF) 15 ≡ true
 unfolding warnedIn areaRecord odd
 tokyo = refl
 
+complement : bitsOf 16 (patternWord 1) ≡ map not (bitsOf 16 (patternWord 0))
+unfolding bitsOf odd
+complement = refl
+
 pub worked : Worked
 worked =
     record {
+      complement = complement;
       example8-written = legal;
       example8-read = λ r a. comes-back r (legal r a);
       example8-not-written = not-written;

@@ -15,7 +15,7 @@ use Rattle.dsc.specs.Repair.{protected, numberOf, placesOf, repairOf}
 use Rattle.frame.specs.Pattern.{patternWord, patternOf}
 use Rattle.frame.specs.Identification.{classOf, updateOf, flagsWrong, isUndefined}
 use Rattle.frame.specs.Body.{bodyOf, layout}
-use Rattle.frame.specs.Fields.{overLimit, recordOf}
+use Rattle.frame.specs.Fields.{fields, overLimit, recordOf}
 use Rattle.frame.specs.declared.Class.{Class}
 use Rattle.frame.specs.declared.Body.{Body}
 use Rattle.frame.specs.declared.Record.{Record}
@@ -98,6 +98,10 @@ readingNumber (Refused n) = n
 abbrev pub readingPlaces : Reading → ℕ
 readingPlaces (Accepted r d) = d .repaired
 readingPlaces (Refused n) = 0
+
+abbrev pub readingFields : Reading → List ℕ
+readingFields (Accepted r d) = fields r
+readingFields (Refused n) = []
 
 -- ---- the frame with its damage repaired: its reference, its pattern's bits, the repaired word, the filler
 

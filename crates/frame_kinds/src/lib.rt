@@ -7,14 +7,24 @@ ghost use Rattle.frame.specs.Fields.{overLimit};
 use frame::Body;
 use frame::Class;
 
+// The bits B1 to B16 of a pattern.
+pub fn pattern_word(pattern: u64) -> u64
+    ensures { λ r. ⌜ r ≡ patternWord pattern ⌝ }
+{
+    if pattern == 0 {
+        return 0x35EE;
+    }
+    0xCA11
+}
+
 // The pattern that B1 to B16 are, and 2 where they are neither.
 pub fn pattern_of(sync: u64) -> u64
     ensures { λ r. ⌜ r ≡ patternOf sync ⌝ }
 {
-    if sync == 0x35EE {
+    if sync == pattern_word(0) {
         return 0;
     }
-    if sync == 0xCA11 {
+    if sync == pattern_word(1) {
         return 1;
     }
     2
@@ -48,16 +58,6 @@ pub fn body_of(class: Class, page: u64, kind: u64) -> Body
         Class::Silent => Body::NoInformation,
         Class::Undefined => Body::NoInformation,
     }
-}
-
-// The bits B1 to B16 of a pattern.
-pub fn pattern_word(pattern: u64) -> u64
-    ensures { λ r. ⌜ r ≡ patternWord pattern ⌝ }
-{
-    if pattern == 0 {
-        return 0x35EE;
-    }
-    0xCA11
 }
 
 pub fn is_undefined(class: Class) -> bool

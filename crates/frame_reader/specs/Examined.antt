@@ -36,16 +36,16 @@ pub record Tells (c : List ℕ) (d : Details) : Type 0 where
   pub longitude : d .contents .longitude ≡ recordIn 0 0 c .longitude
 
 -- a refusal: its number, and no word
-abbrev pub refusedWith : ℕ → Examined
-refusedWith n = record { reading = Refused n; word = replicate 26 0 }
+abbrev pub examinedRefused : ℕ → Examined
+examinedRefused n = record { reading = Refused n; word = replicate 26 0 }
 
 -- accepted: the record, the number of repaired places, the repaired frame
-abbrev pub acceptedWith : Record → ℕ → List ℕ → Examined
-acceptedWith r n c = record { reading = Accepted r (record { repaired = n }); word = c }
+abbrev pub examinedAccepted : Record → ℕ → List ℕ → Examined
+examinedAccepted r n c = record { reading = Accepted r (record { repaired = n }); word = c }
 
 -- the repaired frame c examined, when n places of it were repaired
 unfoldable pub wordExamined : (reference pattern n : ℕ) → List ℕ → Examined
-wordExamined x p n c = cond (eqb (firstRefusal (afterRepair c)) 0) (acceptedWith (recordIn x p c) n c) (refusedWith (firstRefusal (afterRepair c)))
+wordExamined x p n c = cond (eqb (firstRefusal (afterRepair c)) 0) (examinedAccepted (recordIn x p c) n c) (examinedRefused (firstRefusal (afterRepair c)))
 
 -- any bytes examined: what is read, with the repaired frame beside it
 unfoldable pub examinedOf : List ℕ → Examined

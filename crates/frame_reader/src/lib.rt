@@ -9,7 +9,7 @@ ghost use Rattle.bits.specs.Refusal.{firstRefusal};
 ghost use Rattle.crc.specs.Crc.{crc10Of};
 ghost use Rattle.frame.specs.Read.{bodyIn, beforeRepair, afterRepair, readOf, judgeOf};
 ghost use Rattle.frame.specs.Area.{warnedIn};
-ghost use Rattle.frame_reader.specs.Examined.{detailsOf, wordDetails, Tells, refusedWith, wordExamined, examinedOf};
+ghost use Rattle.frame_reader.specs.Examined.{detailsOf, wordDetails, Tells, examinedRefused, wordExamined, examinedOf};
 ghost use Rattle.frame.specs.Read.{cleanedOf};
 use dsc::Outcome;
 use frame::Body;
@@ -305,7 +305,7 @@ fn word_refusal(word: &[u8], details: Details) -> u8
 
 // A refusal, with no word.
 fn refused(number: u8) -> Examined
-    ensures { λ r. ⌜ r ≡ refusedWith number ⌝ }
+    ensures { λ r. ⌜ r ≡ examinedRefused number ⌝ }
 {
     Examined {
         reading: Reading::Refused(number),

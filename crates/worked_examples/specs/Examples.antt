@@ -12,7 +12,7 @@ use Rattle.dsc.specs.Repair.{protected, wordBytes, repairedTo, refusedWith, rep
 use Rattle.dsc.specs.Worked.{generatorWord, firstPlaces, SomePlaces}
 use Rattle.frame.specs.Read.{readOf}
 use Rattle.frame.specs.Write.{Legal, recordRefusal, frameOf}
-use Rattle.frame.specs.Worked.{PlaceAt, placeAt}
+use Rattle.frame.specs.Worked.{AtLatitude, atLatitude}
 use Rattle.frame.specs.declared.Record.{Record}
 use Rattle.frame.specs.declared.Reading.the-variants.{Accepted, Refused}
 use Rattle.follower.specs.Follow.{stepOf}
@@ -41,11 +41,11 @@ pub record Examples : Type 0 where
   pub example7-one : crc10 (covered (110 ∷ [])) ≡ bitsOf 10 0b1001010101
   pub example7-both : crc10 (covered (110 ∷ 111 ∷ [])) ≡ bitsOf 10 0b0001100110
   -- 8. latitude 900 accepted, 901 refused 9: by the writer, and by the reader of the frame that holds these fields; there are such records
-  pub example8-written : (r : Record) → PlaceAt 900 r → Legal r
-  pub example8-read : (r : Record) → PlaceAt 900 r → readOf (frameOf r) ≡ Accepted r (record { repaired = 0 })
-  pub example8-not-written : (r : Record) → PlaceAt 901 r → recordRefusal r ≡ 9
-  pub example8-not-read : (r : Record) → PlaceAt 901 r → readOf (frameOf r) ≡ Refused 9
-  pub example8-some : (n : ℕ) → n < 1024 → PlaceAt n (placeAt n)
+  pub example8-written : (r : Record) → AtLatitude 900 r → Legal r
+  pub example8-read : (r : Record) → AtLatitude 900 r → readOf (frameOf r) ≡ Accepted r (record { repaired = 0 })
+  pub example8-not-written : (r : Record) → AtLatitude 901 r → recordRefusal r ≡ 9
+  pub example8-not-read : (r : Record) → AtLatitude 901 r → readOf (frameOf r) ≡ Refused 9
+  pub example8-some : (n : ℕ) → n < 1024 → AtLatitude n (atLatitude n)
   -- 9. update 3 then 0, same kind: "changed"; 0 then 3: "skipped"; there are such frames
   pub example9-changed : (s : Follower) (f g : List ℕ) (k : Kind) → Warns f k 3 → Warns g k 0 → stepOf (stepOf s f .next) g .event ≡ Changed
   pub example9-skipped : (s : Follower) (f g : List ℕ) (k : Kind) → Warns f k 0 → Warns g k 3 → stepOf (stepOf s f .next) g .event ≡ Skipped
