@@ -11,6 +11,7 @@ use Rattle.frame.specs.Fields.{fields}
 use Rattle.frame.specs.Read.{readOf}
 use Rattle.frame.specs.Write.{writeNumber, writeOf}
 use Rattle.frame.specs.Area.{warnedIn}
+use Rattle.frame.proofs.Promises.{demand2}
 use Rattle.frame.specs.declared.Record.{Record}
 use Rattle.frame.specs.declared.Damage.{Damage}
 use Rattle.frame.specs.declared.Reading.{Reading}
@@ -32,7 +33,7 @@ module _ (f s : List ℕ) {n : ℕ} {t : List ℕ} where
 
   pub read-refused : {m : ℕ} → length s ≡ 18 → readOf f ≡ Refused m → n ≡ statusOf m 0 → t ≡ s → (n ≡ frameReadStatus f s) × (t ≡ frameReadRecord f s)
   unfolding frameReadStatus frameReadRecord
-  read-refused l e p q = let z = eq-eqb (length s) 18 l in (rw (z, e) p, rw (z, e) q)
+  read-refused {m} l e p q = let z = eq-eqb (length s) 18 l in (rw (z, e) p, rw (z, e, ne-eqb m 0 (demand2 .judged-refused f m e .0)) q)
 
 -- ---- writing
 

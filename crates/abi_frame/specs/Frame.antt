@@ -5,13 +5,10 @@ use Prim.Native.Nat.{ℕ}
 use lib.Dec.{eqb}
 use lib.ListN.{length, getD}
 use Rattle.bits.specs.Bits.{digit}
-use Rattle.frame.specs.Fields.{fields}
-use Rattle.frame.specs.Read.{readOf, readingNumber, readingPlaces}
+use Rattle.frame.specs.Read.{readOf, readingNumber, readingPlaces, readingFields}
 use Rattle.frame.specs.Write.{writeNumber, writeOf}
 use Rattle.frame.specs.Area.{warnedIn}
 use Rattle.frame.specs.declared.Record.{Record}
-use Rattle.frame.specs.declared.Reading.{Reading}
-use Rattle.frame.specs.declared.Reading.the-variants.{Accepted, Refused}
 use Rattle.abi.specs.Status.{statusOf}
 
 -- the record that has these fields
@@ -42,12 +39,9 @@ recordFrom v =
 unfoldable pub frameReadStatus : (f s : List ℕ) → ℕ
 frameReadStatus f s = cond (eqb (length s) 18) (statusOf (readingNumber (readOf f)) (readingPlaces (readOf f))) (statusOf 1 0)
 
-abbrev pub fieldsRead : Reading → List ℕ → List ℕ
-fieldsRead (Accepted r d) s = fields r
-fieldsRead (Refused n) s = s
-
+-- the fields of an accepted frame
 unfoldable pub frameReadRecord : (f s : List ℕ) → List ℕ
-frameReadRecord f s = cond (eqb (length s) 18) (fieldsRead (readOf f) s) s
+frameReadRecord f s = cond (eqb (length s) 18) (cond (eqb (readingNumber (readOf f)) 0) (readingFields (readOf f)) s) s
 
 -- a record of another length than 18 is 1, else the writer answers
 unfoldable pub frameWriteStatus : (v s : List ℕ) → ℕ
