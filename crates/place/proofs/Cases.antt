@@ -3,25 +3,14 @@ use mathlib.Core.Path.{_≡_}
 use mathlib.Core.Bool.{true, false}
 use Prim.Native.Nat.{ℕ}
 use lib.IntN.{pos}
-use lib.Ieee.{Float, fin, binary64, div, mul, neg, lt, toUnsigned}
+use lib.Ieee.{Float, fin, binary64, mul, neg, lt, toUnsigned}
 use borrow.Author.Tests.{eq-eqb, ne-eqb}
-use Rattle.place.specs.Degrees.{whole, tenths, degreesOf, kilometresOf}
+use Rattle.place.specs.Degrees.{whole, degreesOf, kilometresOf}
 use Rattle.place.specs.Desk.{valueOf, eitherSign, signedOf, joined, conversionOf}
 use Rattle.place.specs.Candidate.{truncated, tenthsNear}
 use Rattle.place.specs.declared.Place.{Place}
 use Rattle.place.specs.declared.desk.Value.{Value}
 use Rattle.place.specs.declared.desk.Signed.{Signed}
-
--- ---- the image of tenths, for v the number as a double
-
-module _ (flag n : ℕ) (v : Float) (e : v ≡ whole n) where
-  pub image-negated : flag ≡ 1 → neg (div binary64 v (whole 10)) ≡ degreesOf flag n
-  unfolding degreesOf tenths
-  image-negated h = rw (e, eq-eqb flag 1 h)
-
-  pub image-plain : (flag ≡ 1 → ⊥) → div binary64 v (whole 10) ≡ degreesOf flag n
-  unfolding degreesOf tenths
-  image-plain h = rw (e, ne-eqb flag 1 h)
 
 -- ---- the number near x
 

@@ -1,7 +1,7 @@
 -- The promises hold. Assumes nothing.
 use mathlib.Core.Path.{_≡_, refl, sym, ap, subst}
 use mathlib.Core.Bool.{Bool, true, false}
-use mathlib.Core.Logic.{inl, inr}
+use mathlib.Core.Logic.{_⊎_, inl, inr}
 use Prim.Native.Nat.{ℕ, _≤_}
 use native.Mathlib.Omega.{arith}
 use lib.Dec.{T}
@@ -9,8 +9,8 @@ use lib.IntN.{pos}
 use lib.Ieee.{Float, nan, inf, fin, binary64, ofInt, div, neg, toBits, fits, isNan}
 use lib.Ieee.Fits.{inf-fits}
 use Rattle.place.specs.Degrees.{whole, tenths, degreesOf, kilometresOf, placeOf}
-use Rattle.place.specs.Desk.{Allowed, sameBits, SameBits, conversionOf}
-use Rattle.place.specs.Promises.{HasDouble, Degrees}
+use Rattle.place.specs.Desk.{Allowed, sameBits, SameBits, conversionOf, conversionNumber, conversionFields}
+use Rattle.place.specs.Promises.{HasDouble, Imaged, Degrees}
 use Rattle.place.specs.declared.Place.{Place}
 use Rattle.place.specs.declared.Fields.{Fields}
 use Rattle.place.specs.declared.Conversion.{Conversion}
@@ -30,13 +30,25 @@ module _ (p : Place) where
   placed-as c (placed g a s) f b t = ap Converted (one-place p g f a b s t)
   placed-as c (unplaced none) f b t = absurd (none f b t)
 
-  refused-by : (c : Conversion) → Answered p c → ((f : Fields) → Allowed f → SameBits p (placeOf f) → ⊥) → c ≡ Refused 11
-  refused-by c (placed g a s) none = absurd (none g a s)
-  refused-by c (unplaced none) due = refl
+  zero-only-by : (c : Conversion) → Answered p c → conversionNumber c ≡ 0 → Imaged p
+  zero-only-by c (placed f a s) e = record { of = f; allowed = a; same = s }
+  zero-only-by c (unplaced none) e = absurd (omega arith)
 
-  refused-as : (c : Conversion) → Answered p c → (n : ℕ) → c ≡ Refused n → (n ≡ 11) × ((f : Fields) → Allowed f → SameBits p (placeOf f) → ⊥)
-  refused-as c (placed g a s) n e = let z : _≡_ {A = ℕ} 0 1 = cc in absurd (omega arith)
-  refused-as c (unplaced none) n e = let i : n ≡ 11 = cc in (i, none)
+  eleven-by : (c : Conversion) → Answered p c → (Imaged p → ⊥) → conversionNumber c ≡ 11
+  eleven-by c (placed f a s) none = absurd (none (record { of = f; allowed = a; same = s }))
+  eleven-by c (unplaced none) due = refl
+
+  eleven-only-by : (c : Conversion) → Answered p c → conversionNumber c ≡ 11 → Imaged p → ⊥
+  eleven-only-by c (placed f a s) e i = omega arith
+  eleven-only-by c (unplaced none) e i = none (i .of) (i .allowed) (i .same)
+
+  either-by : (c : Conversion) → Answered p c → (conversionNumber c ≡ 0) ⊎ (conversionNumber c ≡ 11)
+  either-by c (placed f a s) = inl refl
+  either-by c (unplaced none) = inr refl
+
+  refused-by : (c : Conversion) → Answered p c → conversionNumber c ≡ 11 → c ≡ Refused 11
+  refused-by c (placed f a s) e = absurd (omega arith)
+  refused-by c (unplaced none) e = refl
 
 -- ---- a place comes back
 
@@ -59,8 +71,8 @@ module _ (x : Float) (none : (y : Float) → T (fits binary64 y) → T (finite y
   no-image {image} inverse n h v e t =
       none (image n) (inverse .fitting n h) (inverse .bounded n h) (subst (λ (y : Float). T (sameBits y (image n))) e t)
 
-  refused-with : (p : Place) → HasDouble x p → conversionOf p ≡ Refused 11
-  refused-with p has = refused-by p _ (answered p) (unplaced-with has)
+  eleven-with : (p : Place) → HasDouble x p → conversionNumber (conversionOf p) ≡ 11
+  eleven-with p has = eleven-by p _ (answered p) (λ i. unplaced-with has (i .of) (i .allowed) (i .same))
     where
       unplaced-with : HasDouble x p → (f : Fields) → Allowed f → SameBits p (placeOf f) → ⊥
       unplaced-with (inl e) f a s = no-image (tenths-inverse 900 (omega arith) (f .south)) (f .latitude) (a .latitude) _ e (s .latitude)
@@ -103,10 +115,15 @@ degrees-laws =
       back-again = λ f a. placed-as (placeOf f) _ (answered (placeOf f)) f a (place-same f a);
       placed-only = λ p. placed-by p _ (answered p);
       placed = λ p. placed-as p _ (answered p);
+      fields-told = λ p f a s. ap conversionFields (placed-as p _ (answered p) f a s);
+      zero-there = λ p i. ap conversionNumber (placed-as p _ (answered p) (i .of) (i .allowed) (i .same));
+      zero-only-there = λ p. zero-only-by p _ (answered p);
+      eleven-elsewhere = λ p. eleven-by p _ (answered p);
+      eleven-only-elsewhere = λ p. eleven-only-by p _ (answered p);
+      zero-or-eleven = λ p. either-by p _ (answered p);
       refused = λ p. refused-by p _ (answered p);
-      refused-only = λ p. refused-as p _ (answered p);
-      nan-refused = refused-with nan not-nan;
-      infinite-refused = λ p s. refused-with (inf s) (not-infinite s) p;
+      nan-refused = eleven-with nan not-nan;
+      infinite-refused = λ p s. eleven-with (inf s) (not-infinite s) p;
       depth-minus-zero-refused =
-          λ p e. refused-by p _ (answered p) (λ f a s. no-minus-zero-depth (f .depth) (a .depth) (subst (λ (v : Float). T (sameBits v (kilometresOf (f .depth)))) e (s .depth)));
+          λ p e. eleven-by p _ (answered p) (λ i. no-minus-zero-depth (i .of .depth) (i .allowed .depth) (subst (λ (v : Float). T (sameBits v (kilometresOf (i .of .depth)))) e (i .same .depth)));
     }

@@ -1,5 +1,6 @@
 -- The desk's place, three doubles, as field values (document 01, "The place in degrees"). Assumes nothing.
 use mathlib.Core.Bool.{Bool, cond, not, _&&_}
+use mathlib.Core.List.{List, [], _∷_}
 use Prim.Native.Nat.{ℕ, zero, suc, _≤_}
 use lib.Dec.{T, eqb}
 use lib.Ieee.{Float, binary64, toBits, isNan}
@@ -60,7 +61,14 @@ joined Nowhere l d = Refused 11
 unfoldable pub conversionOf : Place → Conversion
 conversionOf p = joined (signedOf 900 (p .latitude)) (signedOf 1800 (p .longitude)) (valueOf kilometresOf 1023 (p .depth))
 
--- document 01's number of an answer
+-- document 01's number and values of an answer: 0 with south, latitude, west, longitude and depth, or the refusal's number and nothing else
 abbrev pub conversionNumber : Conversion → ℕ
 conversionNumber (Converted f) = 0
 conversionNumber (Refused n) = n
+
+abbrev pub fieldList : Fields → List ℕ
+fieldList f = f .south ∷ f .latitude ∷ f .west ∷ f .longitude ∷ f .depth ∷ []
+
+abbrev pub conversionFields : Conversion → List ℕ
+conversionFields (Converted f) = fieldList f
+conversionFields (Refused n) = []

@@ -1,10 +1,22 @@
 -- `place::degrees` meets its contract. Assumes nothing.
-use lib.Ieee.{ofBits, ofInt}
+use mathlib.Core.Path.{_≡_}
+use Prim.Native.Nat.{ℕ}
+use lib.Ieee.{Float, binary64, div, neg, ofBits, ofInt}
+use borrow.Author.Tests.{eq-eqb, ne-eqb}
 use borrow.Author.Needs.{needs}
-use Rattle.place.specs.Degrees.{whole}
-use Rattle.place.proofs.Cases.{image-negated, image-plain}
+use Rattle.place.specs.Degrees.{whole, tenths, degreesOf}
 use Rattle.place.proofs.images.degrees.Statement.{statement}
 use Rattle.place.proofs.images.degrees.Tie as tie
+
+-- the image of tenths, for v the number as a double
+module _ (flag n : ℕ) (v : Float) (e : v ≡ whole n) where
+  image-negated : flag ≡ 1 → neg (div binary64 v (whole 10)) ≡ degreesOf flag n
+  unfolding degreesOf tenths
+  image-negated h = rw (e, eq-eqb flag 1 h)
+
+  image-plain : (flag ≡ 1 → ⊥) → div binary64 v (whole 10) ≡ degreesOf flag n
+  unfolding degreesOf tenths
+  image-plain h = rw (e, ne-eqb flag 1 h)
 
 nearest-u64-to-f64-requires : tie.Need-nearest-u64-to-f64-requires
 nearest-u64-to-f64-requires c κs = search needs
