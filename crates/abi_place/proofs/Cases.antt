@@ -9,12 +9,15 @@ use lib.ListN.{length, set}
 use borrow.Author.Tests.{eq-eqb, ne-eqb}
 use Rattle.frame.specs.declared.Record.{Record}
 use Rattle.place.specs.Desk.{conversionOf, conversionNumber}
+use Rattle.place.specs.declared.Place.{Place}
 use Rattle.place.specs.declared.Conversion.{Conversion}
+use Rattle.place.specs.declared.Conversion.the-variants.{Refused}
+use Rattle.place.proofs.Promises.{degrees-laws}
 use Rattle.report.specs.Report.{reportOf, reportNumber}
 use Rattle.report.specs.declared.Reported.{Reported}
 use Rattle.abi.specs.Status.{statusOf}
 use Rattle.abi_frame.specs.Frame.{recordFrom}
-use Rattle.abi_place.specs.Place.{reportCase, doublesOf, reportStatus, reportPlace, fieldsOf, deskStatus, deskFields}
+use Rattle.abi_place.specs.Place.{reportCase, doublesOf, reportStatus, reportPlace, convertedFields, deskStatus, deskFields}
 
 -- ---- all elements of a buffer stored
 
@@ -63,9 +66,19 @@ module _ (latitude longitude depth : Float) (s : List ℕ) {n : ℕ} {t : List �
   fields-wrong h e p = let z = ne-eqb (length s) 5 h in (rw z e, rw z p)
 
   pub converted : (a b : Conversion) → length s ≡ 5 → a ≡ conversionOf (record { latitude = latitude; longitude = longitude; depth = depth }) → a ≡ b
-      → n ≡ statusOf (conversionNumber b) 0 → t ≡ fieldsOf b s → (n ≡ deskStatus latitude longitude depth s) × (t ≡ deskFields latitude longitude depth s)
+      → n ≡ statusOf (conversionNumber b) 0 → t ≡ convertedFields b s → (n ≡ deskStatus latitude longitude depth s) × (t ≡ deskFields latitude longitude depth s)
   unfolding deskStatus deskFields
   converted a b l e g p q =
       let z = eq-eqb (length s) 5 l in
       let x = sym g ∙ e in
-      (rw z (p ∙ ap (λ (k : Conversion). statusOf (conversionNumber k) 0) x), rw z (q ∙ ap (λ (k : Conversion). fieldsOf k s) x))
+      (rw z (p ∙ ap (λ (k : Conversion). statusOf (conversionNumber k) 0) x), rw z (q ∙ ap (λ (k : Conversion). convertedFields k s) x))
+
+-- a refusal leaves the buffer
+pub left : (p : Place) (n : ℕ) (s : List ℕ) → conversionOf p ≡ Refused n → s ≡ convertedFields (Refused n) s
+left p n s e = rw (ne-eqb n 0 number)
+  where
+    number : n ≢ 0
+    number z =
+        let i = degrees-laws .zero-only-there p (ap conversionNumber e ∙ z) in
+        let both = sym e ∙ degrees-laws .placed p (i .of) (i .allowed) (i .same) in
+        let y : _≡_ {A = ℕ} 0 1 = cc in absurd (omega arith)

@@ -5,10 +5,8 @@ use Prim.Native.Nat.{ℕ}
 use lib.Dec.{eqb}
 use lib.ListN.{length}
 use lib.Ieee.{Float}
-use Rattle.place.specs.Desk.{conversionOf, conversionNumber}
-use Rattle.place.specs.declared.Fields.{Fields}
+use Rattle.place.specs.Desk.{conversionOf, conversionNumber, conversionFields}
 use Rattle.place.specs.declared.Conversion.{Conversion}
-use Rattle.place.specs.declared.Conversion.the-variants as conversion
 use Rattle.report.specs.Report.{reportOf, reportNumber}
 use Rattle.report.specs.declared.Reported.{Reported}
 use Rattle.report.specs.declared.Reported.the-variants.{Place, Cancellation, AreasOnly, Nothing, Refused}
@@ -40,15 +38,15 @@ doublesOf (Refused n) s = s
 unfoldable pub reportPlace : (v : List ℕ) → List Float → List Float
 reportPlace v s = cond (eqb (length v) 18) (cond (eqb (length s) 3) (doublesOf (reportOf (recordFrom v)) s) s) s
 
+-- the fields of a place that the desk converts
+abbrev pub convertedFields : Conversion → List ℕ → List ℕ
+convertedFields c s = cond (eqb (conversionNumber c) 0) (conversionFields c) s
+
 -- the desk's place: fields of another length than 5 are 1
 unfoldable pub deskStatus : (latitude longitude depth : Float) → List ℕ → ℕ
 deskStatus n m d s =
     cond (eqb (length s) 5) (statusOf (conversionNumber (conversionOf (record { latitude = n; longitude = m; depth = d }))) 0) (statusOf 1 0)
 
 -- south, latitude, west, longitude, depth
-abbrev pub fieldsOf : Conversion → List ℕ → List ℕ
-fieldsOf (conversion.Converted f) s = f .south ∷ f .latitude ∷ f .west ∷ f .longitude ∷ f .depth ∷ []
-fieldsOf (conversion.Refused n) s = s
-
 unfoldable pub deskFields : (latitude longitude depth : Float) → List ℕ → List ℕ
-deskFields n m d s = cond (eqb (length s) 5) (fieldsOf (conversionOf (record { latitude = n; longitude = m; depth = d })) s) s
+deskFields n m d s = cond (eqb (length s) 5) (convertedFields (conversionOf (record { latitude = n; longitude = m; depth = d })) s) s

@@ -1,10 +1,10 @@
 -- `abi_place::desk` meets its contract. Assumes nothing.
-use mathlib.Core.Path.{refl}
+use mathlib.Core.Path.{refl, sym, _∙_}
 use native.Mathlib.Omega.{arith}
 use lib.ListN.{length-set}
 use borrow.Author.Needs.{needs}
 use denote.Ref.{now}
-use Rattle.abi_place.proofs.Cases.{five-stored, fields-wrong, converted}
+use Rattle.abi_place.proofs.Cases.{five-stored, fields-wrong, converted, left}
 use Rattle.abi_place.proofs.desk.Statement.{statement}
 use Rattle.abi_place.proofs.desk.Tie as tie
 
@@ -51,7 +51,9 @@ returns-2 : tie.Need-returns-2
 returns-2 c = converted _ _ _ _ _ _ (c .before .before .before .before .before .if1 .left) (c .before .before .before .before .fields-of .ensures) (c .before .before .f .given .1) (c .status2 .ensures) (five-stored (now (c .before .before .before .before .before .before .before .args .fields)) _ _ _ _ _ (c .before .before .before .before .before .if1 .left))
 
 returns-3 : tie.Need-returns-3
-returns-3 c = converted _ _ _ _ _ _ (c .before .before .before .before .before .if1 .left) (c .before .before .before .before .fields-of .ensures) (c .before .before .number .given .1) (c .status3 .ensures) refl
+returns-3 c =
+    converted _ _ _ _ _ _ (c .before .before .before .before .before .if1 .left) (c .before .before .before .before .fields-of .ensures) (c .before .before .number .given .1) (c .status3 .ensures)
+    (left _ _ _ (sym (c .before .before .before .before .fields-of .ensures) ∙ c .before .before .number .given .1))
 
 pub desk-spec : {M : Type 1} → statement M
 desk-spec =
