@@ -144,7 +144,6 @@ following =
       refused = step-refused;
       accepted = accepted;
       numbered = numbered;
-      alike = λ s t fs e. (ap (λ (x : Follower). stateAfter x fs) e, ap (λ (x : Follower). eventsOf x fs) e);
       forgets = forgets;
       heals = heals;
     }

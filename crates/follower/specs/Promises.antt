@@ -61,8 +61,6 @@ pub record Following : Type 0 where
   pub accepted : (f : List ℕ) (r : Record) (d : Damage) → readOf f ≡ Accepted r d → Warns f (kindOf (r .identification)) (r .update) ⊎ Silences f
   -- the event has the frame's number, 0 where it is accepted
   pub numbered : (s : Follower) (f : List ℕ) → eventNumber (stepOf s f .event) ≡ readingNumber (readOf f)
-  -- from the same frames two followers that start alike stay alike
-  pub alike : (s t : Follower) (fs : List (List ℕ)) → s ≡ t → (stateAfter s fs ≡ stateAfter t fs) × (eventsOf s fs ≡ eventsOf t fs)
   -- after an accepted frame the next state does not depend on the old one
   pub forgets : (s t : Follower) (f : List ℕ) (r : Record) (d : Damage) → readOf f ≡ Accepted r d → stepOf s f .next ≡ stepOf t f .next
   -- so a restart heals with the first accepted frame

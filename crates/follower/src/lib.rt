@@ -120,13 +120,13 @@ impl Follower {
     pub fn new() -> Self
         ensures { λ r. ⌜ r ≡ Quiet ⌝ }
     {
-        Follower::Quiet
+        Follower::Quiet // no frame was seen
     }
 
     pub fn reset(self) -> Self
         ensures { λ r. ⌜ r ≡ Quiet ⌝ }
     {
-        Follower::new()
+        Follower::Quiet // whatever was held
     }
 
     // What was seen, followed.
