@@ -5,7 +5,7 @@ use mathlib.Core.List.{List}
 use Prim.Native.Nat.{ℕ}
 use lib.ListN.{length}
 use Rattle.bits.specs.Layout.{unpack, Layout, layoutb}
-use Rattle.bits.specs.Segment.{segments, widths, fixedHold}
+use Rattle.bits.specs.Segment.{segments, widths, fixedHold, fixedBitsHold}
 use Rattle.bits.proofs.Layouts.{layoutb-layout}
 use Rattle.bits.proofs.Segment.{widths-segments}
 use Rattle.frame.specs.Body.{layout}
@@ -19,15 +19,20 @@ use Rattle.frame_reader.specs.declared.Details.{Details}
 pub room : (ws : List ℕ) (n : ℕ) → n ≡ 11 → layoutb ws 11 ≡ true → Layout ws n
 room ws n e t = subst (Layout ws) (sym e) (layoutb-layout ws 11 t)
 
--- the body's segments as a table, the values that were read, and the test of the fixed bits
-pub details-read : (b : Body) (ks ws : List ℕ) (x p i u : ℕ) (bs : List Bool) (vs : List ℕ) (holds : Bool) → segments ks ws ≡ layout b → length ks ≡ length ws
-    → vs ≡ unpack ws bs → holds ≡ fixedHold (segments ks ws) vs
-    → _≡_ {A = Details} (record { holds = holds; contents = recordOf b x p i u vs }) (detailsOf b x p i u bs)
+-- the test of the fixed bits, by the values that were read
+pub fixed-read : (ks ws : List ℕ) (bs : List Bool) {vs : List ℕ} {holds : Bool} → length ks ≡ length ws → vs ≡ unpack ws bs → holds ≡ fixedHold (segments ks ws) vs
+    → holds ≡ fixedBitsHold (segments ks ws) bs
+fixed-read ks ws bs l ev eh = eh ∙ ap (fixedHold (segments ks ws)) (ev ∙ ap (λ k. unpack k bs) (sym (widths-segments ks ws l)))
+
+-- the body's segments as a table, the test of the fixed bits, and the record of the values that were read
+pub details-read : (b : Body) (ks ws : List ℕ) (x p i u : ℕ) (bs : List Bool) {vs : List ℕ} {holds : Bool} {r : Record} → segments ks ws ≡ layout b → length ks ≡ length ws
+    → (holds ≡ fixedBitsHold (segments ks ws) bs) × (vs ≡ unpack ws bs) → r ≡ recordOf b x p i u vs
+    → _≡_ {A = Details} (record { holds = holds; contents = r }) (detailsOf b x p i u bs)
 unfolding detailsOf
-details-read b ks ws x p i u bs vs holds is l ev eh =
-    let w : widths (layout b) ≡ ws = ap widths (sym is) ∙ widths-segments ks ws l in
-    let v : vs ≡ unpack (widths (layout b)) bs = ev ∙ ap (λ k. unpack k bs) (sym w) in
-    ap₂ (λ (t : Bool) (r : Record). record { holds = t; contents = r }) (eh ∙ ap₂ fixedHold is v) (ap (recordOf b x p i u) v)
+details-read b ks ws x p i u bs is l e er =
+    let w : ws ≡ widths (layout b) = sym (widths-segments ks ws l) ∙ ap widths is in
+    ap₂ (λ (t : Bool) (y : Record). record { holds = t; contents = y }) (e .0 ∙ ap (λ g. fixedBitsHold g bs) is)
+    (er ∙ ap (recordOf b x p i u) (e .1 ∙ ap (λ k. unpack k bs) w))
 
 -- the details of the body that a match found
 pub details-told : (x p i u : ℕ) (bs : List Bool) {b k : Body} {d : Details} → b ≡ k → d ≡ detailsOf k x p i u bs → d ≡ detailsOf b x p i u bs

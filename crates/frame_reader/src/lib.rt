@@ -1,12 +1,16 @@
 // Reading a frame: the tests in their order, and the record.
 ghost use mathlib.Core.Path.{_≡_};
 ghost use mathlib.Core.Bool.{not};
+ghost use mathlib.Core.List.{[]};
 ghost use lib.Dec.{eqb};
 ghost use lib.ListN.{length, take, drop};
 ghost use Rattle.bits.specs.Bits.{bits};
 ghost use Rattle.bits.specs.Field.{fieldAt};
+ghost use Rattle.bits.specs.Layout.{unpack, Layout};
+ghost use Rattle.bits.specs.Segment.{segments, fixedBitsHold};
 ghost use Rattle.bits.specs.Refusal.{firstRefusal};
 ghost use Rattle.crc.specs.Crc.{crc10Of};
+ghost use Rattle.frame.specs.Fields.{recordOf};
 ghost use Rattle.frame.specs.Read.{bodyIn, beforeRepair, afterRepair, readOf, judgeOf};
 ghost use Rattle.frame.specs.Area.{warnedIn};
 ghost use Rattle.frame_reader.specs.Examined.{detailsOf, wordDetails, Tells, examinedRefused, wordExamined, examinedOf};
@@ -51,6 +55,42 @@ fn front_refusal(frame: &[u8]) -> u8
 
 // The four bodies. Kinds and widths are those of the segments of the body's layout; the details are 11 bytes, B24 to B111.
 
+// The values of a body's segments, and whether its fixed bits are as they should be. It requires what `bits::read_all` does, for the same reason.
+fn read_body(details: &[u8], kinds: &[u8], widths: &[usize], values: &mut [u64]) -> bool
+    requires { ⌜ Layout (now widths) (length (now details)) × ((length (now values) ≡ length (now widths)) × (length (now kinds) ≡ length (now widths))) ⌝ }
+    ensures holds { λ r. ⌜ r ≡ fixedBitsHold (segments (now (kinds .entry)) (now (widths .entry))) (bits (now (details .entry))) ⌝ }
+    ensures values { λ _. ⌜ now (values .exit) ≡ unpack (now (widths .entry)) (bits (now (details .entry))) ⌝ }
+{
+    bits::read_all(details, widths, values);
+    bits::fixed_hold(kinds, widths, values)
+}
+
+// The record with these fields, and 0 in every other: that of page 0 with no values.
+fn blank(reference: u64, pattern: u64, identification: u64, update: u64) -> Record
+    ensures { λ r. ⌜ r ≡ recordOf Body.AreaPage reference pattern identification update [] ⌝ }
+{
+    Record {
+        reference,
+        pattern,
+        identification,
+        update,
+        time: 0,
+        page: 0,
+        areas: 0,
+        total: 0,
+        item: 0,
+        number: 0,
+        kind: 0,
+        south: 0,
+        latitude: 0,
+        west: 0,
+        longitude: 0,
+        depth: 0,
+        occurred: 0,
+        broadcaster: 0,
+    }
+}
+
 // Page 0: the areas.
 fn area_page(
     reference: u64,
@@ -62,34 +102,14 @@ fn area_page(
     requires { ⌜ length (now details) ≡ 11 ⌝ }
     ensures { λ r. ⌜ r ≡ detailsOf Body.AreaPage reference pattern identification update (bits (now (details .entry))) ⌝ }
 {
-    let ws: [usize; 3] = [31, 1, 56];
     let kinds: [u8; 3] = [0, 2, 0];
+    let widths: [usize; 3] = [31, 1, 56];
     let mut v: [u64; 3] = [0; 3];
-    bits::read_all(details, &ws, &mut v);
-    let holds = bits::fixed_hold(&kinds, &ws, &v);
-    Details {
-        holds,
-        contents: Record {
-            reference,
-            pattern,
-            identification,
-            update,
-            time: v[0],
-            page: 0,
-            areas: v[2],
-            total: 0,
-            item: 0,
-            number: 0,
-            kind: 0,
-            south: 0,
-            latitude: 0,
-            west: 0,
-            longitude: 0,
-            depth: 0,
-            occurred: 0,
-            broadcaster: 0,
-        },
-    }
+    let holds = read_body(details, &kinds, &widths, &mut v);
+    let mut contents = blank(reference, pattern, identification, update);
+    contents.time = v[0];
+    contents.areas = v[2];
+    Details { holds, contents }
 }
 
 // Page 1, kind 0: the place.
@@ -103,34 +123,23 @@ fn place_page(
     requires { ⌜ length (now details) ≡ 11 ⌝ }
     ensures { λ r. ⌜ r ≡ detailsOf Body.PlacePage reference pattern identification update (bits (now (details .entry))) ⌝ }
 {
-    let ws: [usize; 13] = [31, 1, 1, 1, 9, 1, 1, 10, 1, 11, 10, 10, 1];
     let kinds: [u8; 13] = [0, 1, 0, 0, 0, 2, 0, 0, 0, 0, 0, 0, 1];
+    let widths: [usize; 13] = [31, 1, 1, 1, 9, 1, 1, 10, 1, 11, 10, 10, 1];
     let mut v: [u64; 13] = [0; 13];
-    bits::read_all(details, &ws, &mut v);
-    let holds = bits::fixed_hold(&kinds, &ws, &v);
-    Details {
-        holds,
-        contents: Record {
-            reference,
-            pattern,
-            identification,
-            update,
-            time: v[0],
-            page: 1,
-            areas: 0,
-            total: v[2],
-            item: v[3],
-            number: v[4],
-            kind: 0,
-            south: v[6],
-            latitude: v[7],
-            west: v[8],
-            longitude: v[9],
-            depth: v[10],
-            occurred: v[11],
-            broadcaster: 0,
-        },
-    }
+    let holds = read_body(details, &kinds, &widths, &mut v);
+    let mut contents = blank(reference, pattern, identification, update);
+    contents.time = v[0];
+    contents.page = 1;
+    contents.total = v[2];
+    contents.item = v[3];
+    contents.number = v[4];
+    contents.south = v[6];
+    contents.latitude = v[7];
+    contents.west = v[8];
+    contents.longitude = v[9];
+    contents.depth = v[10];
+    contents.occurred = v[11];
+    Details { holds, contents }
 }
 
 // Page 1, kind 1: a cancellation.
@@ -144,34 +153,18 @@ fn cancel_page(
     requires { ⌜ length (now details) ≡ 11 ⌝ }
     ensures { λ r. ⌜ r ≡ detailsOf Body.CancelPage reference pattern identification update (bits (now (details .entry))) ⌝ }
 {
-    let ws: [usize; 8] = [31, 1, 1, 1, 9, 1, 43, 1];
     let kinds: [u8; 8] = [0, 1, 0, 0, 0, 1, 1, 1];
+    let widths: [usize; 8] = [31, 1, 1, 1, 9, 1, 43, 1];
     let mut v: [u64; 8] = [0; 8];
-    bits::read_all(details, &ws, &mut v);
-    let holds = bits::fixed_hold(&kinds, &ws, &v);
-    Details {
-        holds,
-        contents: Record {
-            reference,
-            pattern,
-            identification,
-            update,
-            time: v[0],
-            page: 1,
-            areas: 0,
-            total: v[2],
-            item: v[3],
-            number: v[4],
-            kind: 1,
-            south: 0,
-            latitude: 0,
-            west: 0,
-            longitude: 0,
-            depth: 0,
-            occurred: 0,
-            broadcaster: 0,
-        },
-    }
+    let holds = read_body(details, &kinds, &widths, &mut v);
+    let mut contents = blank(reference, pattern, identification, update);
+    contents.time = v[0];
+    contents.page = 1;
+    contents.total = v[2];
+    contents.item = v[3];
+    contents.number = v[4];
+    contents.kind = 1;
+    Details { holds, contents }
 }
 
 // No information: the broadcaster's number.
@@ -185,34 +178,13 @@ fn no_information(
     requires { ⌜ length (now details) ≡ 11 ⌝ }
     ensures { λ r. ⌜ r ≡ detailsOf Body.NoInformation reference pattern identification update (bits (now (details .entry))) ⌝ }
 {
-    let ws: [usize; 3] = [32, 11, 45];
     let kinds: [u8; 3] = [1, 0, 1];
+    let widths: [usize; 3] = [32, 11, 45];
     let mut v: [u64; 3] = [0; 3];
-    bits::read_all(details, &ws, &mut v);
-    let holds = bits::fixed_hold(&kinds, &ws, &v);
-    Details {
-        holds,
-        contents: Record {
-            reference,
-            pattern,
-            identification,
-            update: 0,
-            time: 0,
-            page: 0,
-            areas: 0,
-            total: 0,
-            item: 0,
-            number: 0,
-            kind: 0,
-            south: 0,
-            latitude: 0,
-            west: 0,
-            longitude: 0,
-            depth: 0,
-            occurred: 0,
-            broadcaster: v[1],
-        },
-    }
+    let holds = read_body(details, &kinds, &widths, &mut v);
+    let mut contents = blank(reference, pattern, identification, 0);
+    contents.broadcaster = v[1];
+    Details { holds, contents }
 }
 
 fn body_details(

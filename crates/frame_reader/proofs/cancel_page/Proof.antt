@@ -2,7 +2,6 @@
 use mathlib.Core.Path.{refl}
 use mathlib.Core.List.{[], _∷_}
 use borrow.Author.Needs.{needs}
-use Rattle.bits.specs.Bits.{bits}
 use Rattle.bits.specs.Layout.{sum}
 use Rattle.bits.specs.Segment.{segments}
 use Rattle.frame.specs.Body.{layout}
@@ -12,61 +11,49 @@ use Rattle.frame_reader.proofs.ReadingDetails.{room, details-read}
 use Rattle.frame_reader.proofs.cancel_page.Statement.{statement}
 use Rattle.frame_reader.proofs.cancel_page.Tie as tie
 
-slice-aggregate-read-all : tie.Need-slice-aggregate-read-all
-slice-aggregate-read-all c = search needs
+slice-aggregate-read-body : tie.Need-slice-aggregate-read-body
+slice-aggregate-read-body c = search needs
 
-slice-aggregate-read-all-2 : tie.Need-slice-aggregate-read-all-2
-slice-aggregate-read-all-2 c = search needs
+slice-aggregate-read-body-2 : tie.Need-slice-aggregate-read-body-2
+slice-aggregate-read-body-2 c = search needs
 
-read-all-requires : tie.Need-read-all-requires
+slice-aggregate-read-body-3 : tie.Need-slice-aggregate-read-body-3
+slice-aggregate-read-body-3 c = search needs
+
+read-body-requires : tie.Need-read-body-requires
 unfolding sum
-read-all-requires c κs = (room (31 ∷ 1 ∷ 1 ∷ 1 ∷ 9 ∷ 1 ∷ 43 ∷ 1 ∷ []) _ (c .before .before .before .pre) refl, refl)
+read-body-requires c κs = (room (31 ∷ 1 ∷ 1 ∷ 1 ∷ 9 ∷ 1 ∷ 43 ∷ 1 ∷ []) _ (c .before .before .before .before .pre) refl, (refl, refl))
 
-slice-aggregate-fixed-hold : tie.Need-slice-aggregate-fixed-hold
-slice-aggregate-fixed-hold c = search needs
+blank-requires : tie.Need-blank-requires
+blank-requires c κs = search needs
 
-slice-aggregate-fixed-hold-2 : tie.Need-slice-aggregate-fixed-hold-2
-slice-aggregate-fixed-hold-2 c = search needs
+array-read-contents : tie.Need-array-read-contents
+array-read-contents c = search needs
 
-slice-aggregate-fixed-hold-3 : tie.Need-slice-aggregate-fixed-hold-3
-slice-aggregate-fixed-hold-3 c = search needs
+array-read-contents-2 : tie.Need-array-read-contents-2
+array-read-contents-2 c = search needs
 
-fixed-hold-requires : tie.Need-fixed-hold-requires
-fixed-hold-requires c κs = search needs
+array-read-contents-3 : tie.Need-array-read-contents-3
+array-read-contents-3 c = search needs
 
-array-read-t23 : tie.Need-array-read-t23
-array-read-t23 c = search needs
-
-array-read-t26 : tie.Need-array-read-t26
-array-read-t26 c = search needs
-
-array-read-t29 : tie.Need-array-read-t29
-array-read-t29 c = search needs
-
-array-read-t32 : tie.Need-array-read-t32
-array-read-t32 c = search needs
+array-read-contents-4 : tie.Need-array-read-contents-4
+array-read-contents-4 c = search needs
 
 returns : tie.Need-returns
 unfolding segments layout recordOf
-returns c =
-    let r = c .before .before .before .before .before .read-all in
-    let s = c .before .before .before .before .before .before .before .before .before .args in
-    details-read CancelPage (0 ∷ 1 ∷ 0 ∷ 0 ∷ 0 ∷ 1 ∷ 1 ∷ 1 ∷ []) (31 ∷ 1 ∷ 1 ∷ 1 ∷ 9 ∷ 1 ∷ 43 ∷ 1 ∷ []) (s .reference) (s .pattern) (s .identification) (s .update) (bits (s .details .now))
-    (r .last .1 .1 .0) (c .fixed-hold .result) refl refl (r .ensures) (c .fixed-hold .ensures)
+returns c = details-read CancelPage (0 ∷ 1 ∷ 0 ∷ 0 ∷ 0 ∷ 1 ∷ 1 ∷ 1 ∷ []) (31 ∷ 1 ∷ 1 ∷ 1 ∷ 9 ∷ 1 ∷ 43 ∷ 1 ∷ []) _ _ _ _ _ refl refl (c .before .before .read-body .ensures) (rw (c .blank .ensures))
 
 pub cancel-page-spec : {M : Type 1} → statement M
 cancel-page-spec =
     tie.close
     (tie.spec
-    slice-aggregate-read-all
-    slice-aggregate-read-all-2
-    read-all-requires
-    slice-aggregate-fixed-hold
-    slice-aggregate-fixed-hold-2
-    slice-aggregate-fixed-hold-3
-    fixed-hold-requires
-    array-read-t23
-    array-read-t26
-    array-read-t29
-    array-read-t32
+    slice-aggregate-read-body
+    slice-aggregate-read-body-2
+    slice-aggregate-read-body-3
+    read-body-requires
+    blank-requires
+    array-read-contents
+    array-read-contents-2
+    array-read-contents-3
+    array-read-contents-4
     returns)
