@@ -6,7 +6,7 @@ use lib.Dec.{eqb}
 use lib.ListN.{length}
 use Rattle.header.specs.Fields.{run, frontFields, frontOf, extensionFields, extensionOf}
 use Rattle.header.specs.Header.{headerRefusal, headerReadOf, writeNumber, writeOf}
-use Rattle.header.specs.Laying.{layInNumber}
+use Rattle.header_laying.specs.Laying.{layInNumber}
 use Rattle.header.specs.declared.Header.{Header}
 use Rattle.abi.specs.Status.{statusOf}
 

@@ -1,7 +1,7 @@
 // Headers over plain numbers and slices, as a C program can call them: a header is its 145 fields in their order.
 ghost use mathlib.Core.Path.{_≡_};
 ghost use lib.ListN.{length};
-ghost use Rattle.header.specs.Laying.{layInOf, takeOutOf};
+ghost use Rattle.header_laying.specs.Laying.{layInOf, takeOutOf};
 ghost use Rattle.abi_header.specs.Header.{headerValues, headerFrom, headerReadStatus, headerReadValues, headerWriteStatus, headerWriteBytes, layInStatus, takeOutStatus};
 use header::Header;
 

@@ -9,7 +9,7 @@ ghost use Rattle.abi_frame.specs.Frame.{frameReadStatus, frameReadRecord, frame
 ghost use Rattle.abi_place.specs.Place.{reportStatus, reportPlace, deskStatus, deskFields};
 ghost use Rattle.abi_receiver.specs.Receiver.{followStatus, captureSource, captureNumbers};
 ghost use Rattle.abi_header.specs.Header.{headerReadStatus, headerReadValues, headerWriteStatus, headerWriteBytes, layInStatus, takeOutStatus};
-ghost use Rattle.header.specs.Laying.{layInOf, takeOutOf};
+ghost use Rattle.header_laying.specs.Laying.{layInOf, takeOutOf};
 ghost use Rattle.bits.specs.Bits.{bits};
 ghost use Rattle.crc.specs.Crc.{crc32Of};
 

@@ -1,26 +1,19 @@
--- Computed: the order of the tests, what the sample header is refused for, and its CRC without a frame and with one. Assumes nothing.
+-- Computed: the order of the tests, what the sample header is refused for, and its CRC. Assumes nothing.
 use mathlib.Core.Path.{_≡_, refl}
 use mathlib.Core.Bool.{false}
 use mathlib.Core.List.{List, [], _∷_}
 use Prim.Native.Nat.{ℕ}
-use lib.ListN.{take, drop}
-use Rattle.gf2.specs.Polynomial.{poly, add, scale, remainder, checkBits, member}
+use lib.ListN.{drop}
+use Rattle.gf2.specs.Polynomial.{add, scale, remainder}
 use Rattle.bits.specs.Bits.{digit, odd, value, bitsOf, bits, bytes}
 use Rattle.bits.specs.Layout.{pack}
 use Rattle.bits.specs.Segment.{widths, freeWidths, withFixed}
 use Rattle.bits.specs.Refusal.{firstRefusal, testNumbers}
-use Rattle.crc.specs.Crc.{crc, crc10, crc32}
-use Rattle.dsc.specs.Code.{powers, generatorLow, parityOf}
-use Rattle.frame.specs.Identification.{classOf}
-use Rattle.frame.specs.Body.{layout, bodyValues}
-use Rattle.frame.specs.Fields.{fieldWidths}
-use Rattle.frame.specs.Write.{announced, messageBits, frameOf, Legal, recordRefusal as frameRecordRefusal}
-use Rattle.frame.specs.Worked.{areaRecord}
+use Rattle.crc.specs.Crc.{crc, crc32}
 use Rattle.header.specs.Layout.{frontLayout, extensionLayout}
 use Rattle.header.specs.Fields.{pairs, frontFields, extensionFields, Sized}
 use Rattle.header.specs.Tests.{among, tooWide}
 use Rattle.header.specs.Header.{headerTests, sealed, headerOf, recordTests, recordRefusal}
-use Rattle.header.specs.Laying.{withAc}
 use Rattle.header.specs.Worked.{sample}
 use Rattle.header.specs.declared.Header.{Header}
 
@@ -60,15 +53,6 @@ pub sample-sized : (p n s : ℕ) → Sized (sample p n s)
 unfolding sample
 sample-sized p n s = record { valid = refl; streams = refl; networks = refl; states = refl; slots = refl; ac = refl }
 
--- the warning for all areas is a legal record
-pub warning-legal : Legal (areaRecord 0)
-unfolding areaRecord frameRecordRefusal firstRefusal classOf fieldWidths
-warning-legal = refl
-
 pub crc-alone : drop 184 (headerOf (sample 0x47000000 1 0)) ≡ 0xE7 ∷ 0x60 ∷ 0xA5 ∷ 0x71 ∷ []
 unfolding add scale remainder digit odd value bitsOf bits bytes pack widths withFixed crc crc32 frontLayout extensionLayout pairs frontFields extensionFields sealed headerOf sample
 crc-alone = refl
-
-pub crc-with-frame : drop 184 (withAc (headerOf (sample 0x47000000 1 0)) (take 204 (bits (frameOf (areaRecord 0))))) ≡ 0xB0 ∷ 0xAC ∷ 0x5A ∷ 0x53 ∷ []
-unfolding add scale remainder digit odd value bitsOf bits bytes pack widths withFixed crc crc32 frontLayout extensionLayout pairs frontFields extensionFields sealed headerOf sample withAc poly member checkBits crc10 powers generatorLow parityOf classOf layout bodyValues announced messageBits frameOf areaRecord
-crc-with-frame = refl

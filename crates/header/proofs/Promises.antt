@@ -1,38 +1,21 @@
 -- The promises hold. Assumes nothing.
-use mathlib.Core.Path.{_≡_, refl, sym, ap, ap₂, _∙_, subst}
+use mathlib.Core.Path.{_≡_, refl, sym, ap, _∙_, subst}
 use mathlib.Core.Bool.{Bool, true, false, cond}
 use mathlib.Core.Logic.{_≢_}
-use mathlib.Core.List.{List, [], _++_}
+use mathlib.Core.List.{List, []}
 use Prim.Native.Nat.{ℕ}
-use native.Mathlib.Omega.{arith}
 use lib.Dec.{eqb}
-use lib.ListN.{length, take, drop, replicate, length-drop, length-replicate, take-append-drop}
-use lib.Seq.{take-all, length-take-le}
-use borrow.Author.Tests.{eq-eqb, ne-eqb, eqb-true, eqb-false}
-use Rattle.bits.specs.Bits.{bits, bytes, Bytes}
-use Rattle.bits.specs.Refusal.{orElse}
-use Rattle.bits.proofs.Bits.{length-bits, length-bytes, bytes-bits, bytes-Bytes}
-use Rattle.gf2.specs.Polynomial.{zeros}
-use Rattle.frame.specs.Read.{frameRefusal, judgeOf, readOf, cleanOf}
-use Rattle.frame.specs.Write.{frameOf, Legal as FrameLegal}
-use Rattle.frame.specs.declared.Record.{Record}
-use Rattle.frame.specs.declared.Damage.{Damage}
-use Rattle.frame.specs.declared.Verdict.{Verdict}
-use Rattle.frame.specs.declared.Reading.the-variants.{Accepted}
-use Rattle.frame.proofs.Frames.{parts-frame}
-use Rattle.frame.proofs.Promises as frame
+use lib.ListN.{length}
+use borrow.Author.Tests.{eq-eqb, ne-eqb}
+use Rattle.bits.specs.Bits.{Bytes}
 use Rattle.header.specs.Fields.{Sized}
 use Rattle.header.specs.Header.{frontIn, extensionIn, headerIn, headerRefusal, noHeader, headerReadOf, headerOf, Legal, recordRefusal, writeNumber, writeOf}
-use Rattle.header.specs.Laying.{acBits, withAc, repairedBits, layInNumber, layInOf, takeOutOf}
-use Rattle.header.specs.Promises.{SameOutside, Demand2, Laying}
+use Rattle.header.specs.Promises.{Demand2}
 use Rattle.header.specs.declared.Header.{Header}
 use Rattle.header.specs.declared.HeaderReading.{HeaderReading}
 use Rattle.header.proofs.Computed.{header-order, record-order}
 use Rattle.header.proofs.Fields.{sized}
 use Rattle.header.proofs.Headers as headers
-use Rattle.header.proofs.Laying.{withAc-bits, withAc-frontIn, withAc-outside, withAc-again, withAc-accepted, withAc-own}
-
--- ---- reading and writing
 
 -- an accepted header is read as it stands
 read-in : (h : List ℕ) → headerRefusal h ≡ 0 → headerReadOf h ≡ record { number = 0; header = headerIn h }
@@ -93,177 +76,4 @@ demand2 =
       legal-exactly = legal-exactly;
       written = written;
       unchanged = unchanged;
-    }
-
--- ---- laying in and taking out
-
--- a header that is changed only where nothing is refused
-changed : (P : List ℕ → Type 0) (n : ℕ) (x y : List ℕ) → (n ≡ 0 → P x) → P y → P (cond (eqb n 0) x y)
-changed P n x y f p = go (eqb n 0) refl
-  where
-    go : (t : Bool) → eqb n 0 ≡ t → P (cond t x y)
-    go true e = f (eqb-true n 0 e)
-    go false e = p
-
-none-refused : (m n : ℕ) → orElse m n ≡ 0 → (m ≡ 0) × (n ≡ 0)
-none-refused m n e = go (eqb m 0) refl e
-  where
-    go : (t : Bool) → eqb m 0 ≡ t → cond t n m ≡ 0 → (m ≡ 0) × (n ≡ 0)
-    go true q z = (eqb-true m 0 q, z)
-    go false q z = absurd (eqb-false m 0 q z)
-
-module _ (h f : List ℕ) where
-  laid-none : layInNumber h f ≡ 0 → (headerRefusal h ≡ 0) × (frameRefusal f ≡ 0)
-  unfolding layInNumber
-  laid-none e = none-refused (headerRefusal h) (frameRefusal f) e
-
-  header-first : headerRefusal h ≢ 0 → layInNumber h f ≡ headerRefusal h
-  unfolding layInNumber
-  header-first n = rw (ne-eqb (headerRefusal h) 0 n)
-
-  then-frame : headerRefusal h ≡ 0 → layInNumber h f ≡ frameRefusal f
-  unfolding layInNumber
-  then-frame e = rw e
-
-  laid : layInNumber h f ≡ 0 → layInOf h f ≡ withAc h (repairedBits f)
-  unfolding layInOf
-  laid e = rw e
-
-  laid-unchanged : layInNumber h f ≢ 0 → layInOf h f ≡ h
-  unfolding layInOf
-  laid-unchanged n = rw (ne-eqb (layInNumber h f) 0 n)
-
-taken : (h : List ℕ) → headerRefusal h ≡ 0 → takeOutOf h ≡ withAc h (replicate 204 true)
-unfolding takeOutOf
-taken h e = rw e
-
-taken-unchanged : (h : List ℕ) → headerRefusal h ≢ 0 → takeOutOf h ≡ h
-unfolding takeOutOf
-taken-unchanged h n = rw (ne-eqb (headerRefusal h) 0 n)
-
--- the 204 bits that are laid in
-length-clean : (f : List ℕ) → length (cleanOf f) ≡ 26
-unfolding cleanOf
-length-clean f = length-bytes 26 _
-
-Bytes-clean : (f : List ℕ) → Bytes (cleanOf f)
-unfolding cleanOf
-Bytes-clean f = bytes-Bytes 26 _
-
-length-repaired : (f : List ℕ) → length (repairedBits f) ≡ 204
-length-repaired f = length-take-le 204 (bits (cleanOf f)) (omega (arith, length-bits (cleanOf f), length-clean f))
-
-length-ones : length (replicate 204 true) ≡ 204
-length-ones = length-replicate 204 true
-
-size : (h : List ℕ) → headerRefusal h ≡ 0 → length h ≡ 188
-size h e = headers.accepted h e .size
-
--- with other AC bits an accepted header is accepted
-accepted-with : (h : List ℕ) (bs : List Bool) → length bs ≡ 204 → headerRefusal h ≡ 0 → headerRefusal (withAc h bs) ≡ 0
-accepted-with h bs l e = headers.accepts (withAc h bs) (withAc-accepted h bs l (headers.accepted h e))
-
-unchanged-outside : (h : List ℕ) → SameOutside h h
-unchanged-outside h = record { size = refl; front = refl; rest = refl }
-
-module _ (h f : List ℕ) (e : layInNumber h f ≡ 0) where
-  header-accepted : headerRefusal h ≡ 0
-  header-accepted = laid-none h f e .0
-
-  laid-accepted : headerRefusal (layInOf h f) ≡ 0
-  laid-accepted = ap headerRefusal (laid h f e) ∙ accepted-with h (repairedBits f) (length-repaired f) header-accepted
-
-  laid-bits : acBits (layInOf h f) ≡ repairedBits f
-  laid-bits = ap acBits (laid h f e) ∙ withAc-bits h (repairedBits f) (size h header-accepted) (length-repaired f)
-
-  laid-twice : (g : List ℕ) → frameRefusal g ≡ 0 → layInOf (layInOf h f) g ≡ layInOf h g
-  laid-twice g k =
-      laid (layInOf h f) g (then-frame (layInOf h f) g laid-accepted ∙ k)
-      ∙ ap (λ (x : List ℕ). withAc x (repairedBits g)) (laid h f e)
-      ∙ withAc-again h (repairedBits f) (size h header-accepted) (length-repaired f) (repairedBits g)
-      ∙ sym (laid h g (then-frame h g header-accepted ∙ k))
-
-  taken-laid : takeOutOf (layInOf h f) ≡ takeOutOf h
-  taken-laid =
-      taken (layInOf h f) laid-accepted
-      ∙ ap (λ (x : List ℕ). withAc x (replicate 204 true)) (laid h f e)
-      ∙ withAc-again h (repairedBits f) (size h header-accepted) (length-repaired f) (replicate 204 true)
-      ∙ sym (taken h header-accepted)
-
-  back-again : Bytes h → acBits h ≡ replicate 204 true → takeOutOf (layInOf h f) ≡ h
-  back-again b o =
-      taken-laid ∙ taken h header-accepted ∙ ap (withAc h) (sym o) ∙ withAc-own h b (headers.accepted h header-accepted)
-
-laid-outside : (h f : List ℕ) → SameOutside (layInOf h f) h
-unfolding layInOf
-laid-outside h f =
-    changed (λ (k : List ℕ). SameOutside k h) (layInNumber h f) (withAc h (repairedBits f)) h
-    (λ e. withAc-outside h (repairedBits f) (size h (header-accepted h f e)) (length-repaired f)) (unchanged-outside h)
-
-laid-front : (h f : List ℕ) → frontIn (layInOf h f) ≡ frontIn h
-unfolding layInOf
-laid-front h f =
-    changed (λ (k : List ℕ). frontIn k ≡ frontIn h) (layInNumber h f) (withAc h (repairedBits f)) h
-    (λ e. withAc-frontIn h (repairedBits f) (size h (header-accepted h f e)) (length-repaired f)) refl
-
-taken-outside : (h : List ℕ) → SameOutside (takeOutOf h) h
-unfolding takeOutOf
-taken-outside h =
-    changed (λ (k : List ℕ). SameOutside k h) (headerRefusal h) (withAc h (replicate 204 true)) h
-    (λ e. withAc-outside h (replicate 204 true) (size h e) length-ones) (unchanged-outside h)
-
-taken-accepted : (h : List ℕ) → headerRefusal h ≡ 0 → headerRefusal (takeOutOf h) ≡ 0
-taken-accepted h e = ap headerRefusal (taken h e) ∙ accepted-with h (replicate 204 true) length-ones e
-
-taken-bits : (h : List ℕ) → headerRefusal h ≡ 0 → acBits (takeOutOf h) ≡ replicate 204 true
-taken-bits h e = ap acBits (taken h e) ∙ withAc-bits h (replicate 204 true) (size h e) length-ones
-
--- the repaired bits and the filler are the repaired frame
-repaired-frame : (f : List ℕ) (r : Record) → frameOf r ≡ cleanOf f → bytes 26 (repairedBits f ++ zeros 4) ≡ cleanOf f
-repaired-frame f r e =
-    let b = bits (cleanOf f) in
-    let l : length (drop 204 b) ≡ 4 = length-drop 204 b ∙ omega (arith, length-bits (cleanOf f), length-clean f) in
-    let filler : zeros 4 ≡ drop 204 b =
-    sym (subst (λ (g : List ℕ). take 4 (drop 204 (bits g)) ≡ zeros 4) e (parts-frame r .filler)) ∙ take-all 4 (drop 204 b) (omega arith) in
-    ap (λ (x : List Bool). bytes 26 (take 204 b ++ x)) filler
-    ∙ ap₂ bytes (sym (length-clean f)) (take-append-drop 204 b)
-    ∙ bytes-bits (cleanOf f) (Bytes-clean f)
-
-frame-accepted : (f : List ℕ) (r : Record) (d : Damage) → readOf f ≡ Accepted r d → frameRefusal f ≡ 0
-unfolding judgeOf
-frame-accepted f r d e = ap (λ (v : Verdict). v .number) (frame.demand2 .judged-accepted f r d e)
-
-laid-read : (h f : List ℕ) (r : Record) (d : Damage) → headerRefusal h ≡ 0 → readOf f ≡ Accepted r d
-    → readOf (bytes 26 (acBits (layInOf h f) ++ zeros 4)) ≡ Accepted r (record { repaired = 0 })
-laid-read h f r d e a =
-    let n : layInNumber h f ≡ 0 = then-frame h f e ∙ frame-accepted f r d a in
-    ap (λ (x : List Bool). readOf (bytes 26 (x ++ zeros 4))) (laid-bits h f n)
-    ∙ ap readOf (repaired-frame f r (frame.demand2 .written-again f r d a))
-    ∙ frame.demand2 .mended-read f r d a
-
--- an undamaged frame is laid in as it stands
-pub laid-own : (h : List ℕ) (r : Record) → headerRefusal h ≡ 0 → FrameLegal r → layInOf h (frameOf r) ≡ withAc h (take 204 (bits (frameOf r)))
-laid-own h r e l =
-    let back = frame.demand2 .comes-back r l in
-    laid h (frameOf r) (then-frame h (frameOf r) e ∙ frame-accepted (frameOf r) r (record { repaired = 0 }) back)
-    ∙ ap (λ (g : List ℕ). withAc h (take 204 (bits g))) (sym (frame.demand2 .written-again (frameOf r) r (record { repaired = 0 }) back))
-
-pub laying : Laying
-laying =
-    record {
-      laid-accepted = laid-accepted;
-      laid-bits = laid-bits;
-      laid-read = laid-read;
-      laid-outside = laid-outside;
-      laid-front = laid-front;
-      laid-twice = λ h f g e k. laid-twice h f e g k;
-      taken-accepted = taken-accepted;
-      taken-bits = taken-bits;
-      taken-outside = taken-outside;
-      taken-laid = taken-laid;
-      back-again = λ h f b o e. back-again h f e b o;
-      header-first = header-first;
-      then-frame = then-frame;
-      laid-unchanged = laid-unchanged;
-      taken-unchanged = taken-unchanged;
     }

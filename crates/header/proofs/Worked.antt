@@ -4,18 +4,13 @@ use mathlib.Core.Bool.{not}
 use mathlib.Core.List.{List}
 use Prim.Native.Nat.{ℕ}
 use native.Mathlib.Omega.{arith}
-use lib.ListN.{length, take, drop}
+use lib.ListN.{length}
 use borrow.Author.Tests.{ne-eqb}
-use Rattle.bits.specs.Bits.{bits}
 use Rattle.bits.proofs.Refusal.{refusal-here}
-use Rattle.frame.specs.Write.{frameOf}
-use Rattle.frame.specs.Worked.{areaRecord}
 use Rattle.header.specs.Header.{headerRefusal, headerOf}
-use Rattle.header.specs.Laying.{withAc, layInOf}
 use Rattle.header.specs.Worked.{sample, Worked}
-use Rattle.header.proofs.Computed.{Found, refusals, sample-sized, warning-legal, crc-alone, crc-with-frame}
+use Rattle.header.proofs.Computed.{Found, refusals, sample-sized, crc-alone}
 use Rattle.header.proofs.Headers.{same-refusal}
-use Rattle.header.proofs.Promises.{laid-own}
 
 short : (h : List ℕ) → length h ≡ 187 → headerRefusal h ≡ 1
 unfolding headerRefusal
@@ -26,9 +21,6 @@ read p n s number e = same-refusal (sample p n s) (sample-sized p n s) (e .0) �
 
 accepted : headerRefusal (headerOf (sample 0x47000000 1 0)) ≡ 0
 accepted = read 0x47000000 1 0 0 (refusals .legal)
-
-laid : layInOf (headerOf (sample 0x47000000 1 0)) (frameOf (areaRecord 0)) ≡ withAc (headerOf (sample 0x47000000 1 0)) (take 204 (bits (frameOf (areaRecord 0))))
-laid = laid-own (headerOf (sample 0x47000000 1 0)) (areaRecord 0) accepted warning-legal
 
 pub worked : Worked
 worked =
@@ -42,5 +34,4 @@ worked =
       sync-first = read 0x46000000 2 3 12 (refusals .sync-first);
       form-first = read 0x47000000 2 3 14 (refusals .form-first);
       crc = crc-alone;
-      crc-laid = ap (drop 184) laid ∙ crc-with-frame;
     }

@@ -2,6 +2,5 @@ pub mod Layout
 pub mod Fields
 pub mod Tests
 pub mod Header
-pub mod Laying
 pub mod Promises
 pub mod Worked

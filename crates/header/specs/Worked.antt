@@ -1,12 +1,9 @@
--- Worked examples of the header: document 01's 12, and the CRC of one header, alone and with a frame, as a program in another language has it. Assumes nothing.
+-- Worked examples of the header: document 01's 12, and the CRC of one header, as a program in another language has it. Assumes nothing.
 use mathlib.Core.Path.{_≡_}
 use mathlib.Core.List.{List, [], _∷_, _++_}
 use Prim.Native.Nat.{ℕ}
 use lib.ListN.{length, drop, replicate}
-use Rattle.frame.specs.Write.{frameOf}
-use Rattle.frame.specs.Worked.{areaRecord}
 use Rattle.header.specs.Header.{headerRefusal, recordRefusal, headerOf}
-use Rattle.header.specs.Laying.{layInOf}
 use Rattle.header.specs.declared.Header.{Header}
 
 -- a header with the given packet header, form, and reception state of stream 1: all streams valid and of network 1, stream i with the id i,
@@ -45,6 +42,5 @@ pub record Worked : Type 0 where
   -- several at once: the first
   pub sync-first : headerRefusal (headerOf (sample 0x46000000 2 3)) ≡ 12
   pub form-first : headerRefusal (headerOf (sample 0x47000000 2 3)) ≡ 14
-  -- the CRC, without a frame and with the warning for all areas
+  -- the CRC
   pub crc : drop 184 (headerOf (sample 0x47000000 1 0)) ≡ 0xE7 ∷ 0x60 ∷ 0xA5 ∷ 0x71 ∷ []
-  pub crc-laid : drop 184 (layInOf (headerOf (sample 0x47000000 1 0)) (frameOf (areaRecord 0))) ≡ 0xB0 ∷ 0xAC ∷ 0x5A ∷ 0x53 ∷ []

@@ -11,7 +11,7 @@ use Rattle.bits.specs.Layout.{pack, unpack, sum, Layout}
 use Rattle.bits.proofs.Bits.{length-bytes, length-bits, bits-take, bitsOf-value}
 use Rattle.bits.proofs.Layouts.{length-pack, layoutb-layout}
 use Rattle.header.specs.Header.{sealed}
-use Rattle.header.specs.Laying.{withAc}
+use Rattle.header_laying.specs.Laying.{withAc}
 use Rattle.header_codec.proofs.Writing.{written-part}
 use Rattle.header_laying.specs.AcBits.{acWidths, acOnes, withFirst}
 

@@ -13,7 +13,7 @@ use Rattle.bits.proofs.Bits.{length-bytes}
 use Rattle.frame.specs.Read.{frameRefusal, cleanOf, cleanedOf}
 use Rattle.frame.specs.declared.Cleaned.{Cleaned}
 use Rattle.header.specs.Header.{headerRefusal}
-use Rattle.header.specs.Laying.{withAc, repairedBits, layInNumber, layInOf, takeOutOf}
+use Rattle.header_laying.specs.Laying.{withAc, repairedBits, layInNumber, layInOf, takeOutOf}
 use Rattle.header.proofs.Headers.{accepted}
 use Rattle.header_laying.specs.AcBits.{acWidths, acOnes}
 use Rattle.header_laying.proofs.AcValues.{all-ones, frame-first}

@@ -1,1 +1,4 @@
+pub mod Laying
 pub mod AcBits
+pub mod Promises
+pub mod Worked

@@ -1,10 +1,10 @@
-// Laying a warning frame into a header, and taking it out.
+// Laying a warning frame into a header, and taking it out. The rules are in specs/Laying.
 ghost use mathlib.Core.Path.{_≡_};
 ghost use lib.ListN.{length};
 ghost use Rattle.bits.specs.Bits.{bits};
 ghost use Rattle.bits.specs.Layout.{pack, unpack};
 ghost use Rattle.header.specs.Header.{headerRefusal};
-ghost use Rattle.header.specs.Laying.{withAc, layInNumber, layInOf, takeOutOf};
+ghost use Rattle.header_laying.specs.Laying.{withAc, layInNumber, layInOf, takeOutOf};
 ghost use Rattle.header_laying.specs.AcBits.{acWidths, acOnes, withFirst};
 
 // The 204 AC bits are 25 bytes and then 4 bits.

@@ -13,15 +13,15 @@ use Rattle.bits.proofs.Bits.{length-bits, length-bytes, bits-bytes, bytes-bits,
 use Rattle.bits.proofs.Segment.{fixedBitsHold-append}
 use Rattle.crc.specs.Crc.{crc32Of}
 use Rattle.frame.proofs.Parts.{inner-part}
 use Rattle.header.specs.Layout.{frontLayout, extensionLayout}
 use Rattle.header.specs.Fields.{frontOf}
 use Rattle.header.specs.Tests.{among}
 use Rattle.header.specs.Header.{frontIn, sealed}
-use Rattle.header.specs.Laying.{acBits, withAc}
-use Rattle.header.specs.Promises.{SameOutside}
+use Rattle.header_laying.specs.Laying.{acBits, withAc}
+use Rattle.header_laying.specs.Promises.{SameOutside}
 use Rattle.header.specs.declared.Front.{Front}
 use Rattle.header.proofs.Sealed.{Bytes-take, Bytes-drop, length-sealed, sealed-front, sealed-extension, sealed-crc, sealed-only}
 use Rattle.header.proofs.Headers.{Accepted}
 
 -- ---- the extension: the 204 AC bits, and 476 bits fixed at 1
 
