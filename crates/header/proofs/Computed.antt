@@ -12,7 +12,8 @@ use Rattle.bits.specs.Refusal.{firstRefusal, testNumbers}
 use Rattle.crc.specs.Crc.{crc, crc32}
 use Rattle.header.specs.Layout.{frontLayout, extensionLayout}
 use Rattle.header.specs.Fields.{pairs, frontFields, extensionFields, Sized}
-use Rattle.header.specs.Tests.{among, tooWide}
+use Rattle.gf2.specs.Polynomial.{member}
+use Rattle.header.specs.Tests.{tooWide}
 use Rattle.header.specs.Header.{headerTests, sealed, headerOf, recordTests, recordRefusal}
 use Rattle.header.specs.Worked.{sample}
 use Rattle.header.specs.declared.Header.{Header}
@@ -31,19 +32,19 @@ pub record Refusals : Type 0 where
   pub legal : Found 0x47000000 1 0 0
   pub form : Found 0x47000000 2 0 14
   pub state : Found 0x47000000 1 3 15
-  pub sync-first : Found 0x46000000 2 3 12
+  pub packet-sync-first : Found 0x46000000 2 3 12
   pub form-first : Found 0x47000000 2 3 14
   pub state-wide : recordRefusal (sample 0x47000000 1 4) ≡ 10
   pub form-wide : recordRefusal (sample 0x47000000 16 0) ≡ 10
 
 pub refusals : Refusals
-unfolding sample recordRefusal firstRefusal tooWide among freeWidths frontLayout extensionLayout pairs frontFields extensionFields
+unfolding sample recordRefusal firstRefusal tooWide member freeWidths frontLayout extensionLayout pairs frontFields extensionFields
 refusals =
     record {
       legal = (refl, refl);
       form = (refl, refl);
       state = (refl, refl);
-      sync-first = (refl, refl);
+      packet-sync-first = (refl, refl);
       form-first = (refl, refl);
       state-wide = refl;
       form-wide = refl;

@@ -1,6 +1,6 @@
 -- Headers that are accepted and headers that are legal: what that comes to, and that reading and writing undo each other. Assumes nothing.
 use mathlib.Core.Path.{_≡_, refl, sym, ap, ap₂, _∙_}
-use mathlib.Core.Bool.{Bool, true, false, true≢false, not, _||_, or-false, and-eq-true-iff}
+use mathlib.Core.Bool.{Bool, true, false, not, or-false, and-eq-true-iff}
 use mathlib.Core.List.{List, _++_}
 use Prim.Native.Nat.{ℕ, _*_, _/_, _^_}
 use native.Mathlib.Omega.{arith}
@@ -14,11 +14,12 @@ use Rattle.bits.specs.Refusal.{firstRefusal}
 use Rattle.bits.proofs.Bits.{length-bytes, bits-bytes}
 use Rattle.bits.proofs.Layouts.{length-fit, fitb-fit, fit-fitb}
 use Rattle.bits.proofs.Segment.{length-packSegments, unpack-bytes-packSegments, bytes-pack-unpackSegments, fixed-packSegments, fit-unpackSegments}
-use Rattle.bits.proofs.Refusal.{refusal-none, none-refusal}
+use Rattle.bits.proofs.Refusal.{refusal-none, none-refusal, neither}
 use Rattle.crc.specs.Crc.{crc32Of}
 use Rattle.header.specs.Layout.{frontLayout, extensionLayout}
 use Rattle.header.specs.Fields.{frontFields, frontOf, extensionFields, extensionOf, Sized}
-use Rattle.header.specs.Tests.{among, tooWide, crcWrong, stateWrong, slotBitWrong, extensionWrong}
+use Rattle.gf2.specs.Polynomial.{member}
+use Rattle.header.specs.Tests.{tooWide, crcWrong, stateWrong, slotBitWrong, extensionWrong}
 use Rattle.header.specs.Header.{frontIn, extensionIn, headerIn, headerTests, headerRefusal, sealed, headerOf, recordTests, recordRefusal, Legal}
 use Rattle.header.specs.declared.Front.{Front}
 use Rattle.header.specs.declared.Extension.{Extension}
@@ -31,16 +32,12 @@ use Rattle.header.proofs.Sealed.{Bytes-take, Bytes-drop, length-sealed,
 -- a header that no refusal is given to
 pub record Accepted (h : List ℕ) : Type 0 where
   pub size : length h ≡ 188
-  pub sync : frontIn h .packet / 2 ^ 24 ≡ 0x47
+  pub packet-sync : frontIn h .packet / 2 ^ 24 ≡ 0x47
   pub crc : crc32Of (bits (drop 4 h)) ≡ 0
   pub form : frontIn h .form ≡ 1
   pub slot-bit : fixedBitsHold frontLayout (bits (take 99 h)) ≡ true
-  pub states : among 3 (frontIn h .states) ≡ false
+  pub states : member 3 (frontIn h .states) ≡ false
   pub ones : fixedBitsHold extensionLayout (bits (take 85 (drop 99 h))) ≡ true
-
-neither : (a b : Bool) → (a || b) ≡ false → (a ≡ false) × (b ≡ false)
-neither true b e = absurd (true≢false e)
-neither false b e = (refl, e)
 
 pub accepted : (h : List ℕ) → headerRefusal h ≡ 0 → Accepted h
 unfolding headerRefusal crcWrong slotBitWrong extensionWrong
@@ -50,7 +47,7 @@ accepted h e =
     let rest15 = neither _ _ (bits15 .1) in
     record {
       size = eqb-true (length h) 188 (not-false _ (t .0));
-      sync = eqb-true (frontIn h .packet / 2 ^ 24) 0x47 (not-false _ (t .1 .0));
+      packet-sync = eqb-true (frontIn h .packet / 2 ^ 24) 0x47 (not-false _ (t .1 .0));
       crc = eqb-true (crc32Of (bits (drop 4 h))) 0 (not-false _ (t .1 .1 .0));
       form = eqb-true (frontIn h .form) 1 (not-false _ (t .1 .1 .1 .0));
       slot-bit = not-false _ (bits15 .0);
@@ -64,7 +61,7 @@ accepts h a =
     none-refusal (headerTests h) (
       ap not (eq-eqb (length h) 188 (a .size)),
       (
-        ap not (eq-eqb (frontIn h .packet / 2 ^ 24) 0x47 (a .sync)),
+        ap not (eq-eqb (frontIn h .packet / 2 ^ 24) 0x47 (a .packet-sync)),
         (
           ap not (eq-eqb (crc32Of (bits (drop 4 h))) 0 (a .crc)),
           (ap not (eq-eqb (frontIn h .form) 1 (a .form)), (rw (a .slot-bit, a .states, a .ones), tt)),
@@ -200,7 +197,7 @@ module _ (h : List ℕ) where
         (rw extension-values (fit-unpackSegments extensionLayout (bits (take 85 (drop 99 h))))) in
         none-refusal (recordTests (headerIn h)) (
           rw (v, w),
-          (ap not (eq-eqb (frontIn h .packet / 2 ^ 24) 0x47 (a .sync)), (ap not (eq-eqb (frontIn h .form) 1 (a .form)), (a .states, tt))),
+          (ap not (eq-eqb (frontIn h .packet / 2 ^ 24) 0x47 (a .packet-sync)), (ap not (eq-eqb (frontIn h .form) 1 (a .form)), (a .states, tt))),
         )
 
     pub read-written : Bytes h → headerOf (headerIn h) ≡ h

@@ -31,7 +31,7 @@ worked =
       state = read 0x47000000 1 3 15 (refusals .state);
       state-wide = refusals .state-wide;
       form-wide = refusals .form-wide;
-      sync-first = read 0x46000000 2 3 12 (refusals .sync-first);
+      packet-sync-first = read 0x46000000 2 3 12 (refusals .packet-sync-first);
       form-first = read 0x47000000 2 3 14 (refusals .form-first);
       crc = crc-alone;
     }

@@ -11,7 +11,7 @@ use Rattle.bits.specs.Refusal.{firstRefusal}
 use Rattle.crc.specs.Crc.{crc32}
 use Rattle.header.specs.Layout.{frontLayout, extensionLayout}
 use Rattle.header.specs.Fields.{frontFields, frontOf, extensionFields, extensionOf}
-use Rattle.header.specs.Tests.{tooWide, syncByteWrong, crcWrong, formUnknown, stateWrong, slotBitWrong, extensionWrong}
+use Rattle.header.specs.Tests.{tooWide, packetSyncByteWrong, crcWrong, formUnknown, stateWrong, slotBitWrong, extensionWrong}
 use Rattle.header.specs.declared.Front.{Front}
 use Rattle.header.specs.declared.Extension.{Extension}
 use Rattle.header.specs.declared.Header.{Header}
@@ -33,7 +33,7 @@ headerIn h = record { front = frontIn h; extension = extensionIn h }
 abbrev pub headerTests : List ℕ → List (ℕ × Bool)
 headerTests h =
     (1, not (eqb (length h) 188))
-    ∷ (12, syncByteWrong (frontIn h))
+    ∷ (12, packetSyncByteWrong (frontIn h))
     ∷ (13, crcWrong h)
     ∷ (14, formUnknown (frontIn h))
     ∷ (15, slotBitWrong h || (stateWrong (frontIn h) || extensionWrong h))
@@ -66,7 +66,7 @@ headerOf r =
 abbrev pub recordTests : Header → List (ℕ × Bool)
 recordTests r =
     (10, tooWide r)
-    ∷ (12, syncByteWrong (r .front))
+    ∷ (12, packetSyncByteWrong (r .front))
     ∷ (14, formUnknown (r .front))
     ∷ (15, stateWrong (r .front))
     ∷ []

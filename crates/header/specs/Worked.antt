@@ -40,7 +40,7 @@ pub record Worked : Type 0 where
   pub state-wide : recordRefusal (sample 0x47000000 1 4) ≡ 10
   pub form-wide : recordRefusal (sample 0x47000000 16 0) ≡ 10
   -- several at once: the first
-  pub sync-first : headerRefusal (headerOf (sample 0x46000000 2 3)) ≡ 12
+  pub packet-sync-first : headerRefusal (headerOf (sample 0x46000000 2 3)) ≡ 12
   pub form-first : headerRefusal (headerOf (sample 0x47000000 2 3)) ≡ 14
   -- the CRC
   pub crc : drop 184 (headerOf (sample 0x47000000 1 0)) ≡ 0xE7 ∷ 0x60 ∷ 0xA5 ∷ 0x71 ∷ []

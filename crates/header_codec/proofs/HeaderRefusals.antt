@@ -7,7 +7,8 @@ use lib.Dec.{eqb}
 use lib.ListN.{length, drop}
 use borrow.Author.Tests.{eq-eqb, ne-eqb}
 use Rattle.bits.proofs.Refusal.{Tested, end, met, unmet, tested}
-use Rattle.header.specs.Tests.{among, crcWrong, slotBitWrong, extensionWrong}
+use Rattle.gf2.specs.Polynomial.{member}
+use Rattle.header.specs.Tests.{crcWrong, slotBitWrong, extensionWrong}
 use Rattle.header.specs.Header.{frontIn, headerIn, noHeader, headerTests, headerRefusal, headerReadOf}
 use Rattle.header.specs.declared.Front.{Front}
 use Rattle.header.specs.declared.Header.{Header}
@@ -33,34 +34,34 @@ module _ (h : List ℕ) (l : length h ≡ 188) (front : FrontFound) (ef : front 
   form-in : (b : Bool) → eqb (front .front .form) 1 ≡ b → not (eqb (frontIn h .form) 1) ≡ not b
   form-in b e = ap not (ap (λ (f : Front). eqb (f .form) 1) (sym is-front) ∙ e)
 
-  pub sync-refused : (front .front .packet / 2 ^ 24 ≡ 0x47 → ⊥) → 12 ≡ headerRefusal h
-  sync-refused n = past-length (met (packet-in false (ne-eqb _ _ n)))
+  pub packet-sync-refused : (front .front .packet / 2 ^ 24 ≡ 0x47 → ⊥) → 12 ≡ headerRefusal h
+  packet-sync-refused n = past-length (met (packet-in false (ne-eqb _ _ n)))
 
   module _ (z12 : front .front .packet / 2 ^ 24 ≡ 0x47) where
-    past-sync : {n : ℕ} → Tested (drop 2 (headerTests h)) n → n ≡ headerRefusal h
-    past-sync a = past-length (unmet (packet-in true (eq-eqb _ _ z12)) a)
+    past-packet-sync : {n : ℕ} → Tested (drop 2 (headerTests h)) n → n ≡ headerRefusal h
+    past-packet-sync a = past-length (unmet (packet-in true (eq-eqb _ _ z12)) a)
 
     pub crc-refused : crcWrong h ≡ true → 13 ≡ headerRefusal h
-    crc-refused e = past-sync (met e)
+    crc-refused e = past-packet-sync (met e)
 
     module _ (z13 : crcWrong h ≡ false) where
       pub form-refused : (front .front .form ≡ 1 → ⊥) → 14 ≡ headerRefusal h
-      form-refused n = past-sync (unmet z13 (met (form-in false (ne-eqb _ _ n))))
+      form-refused n = past-packet-sync (unmet z13 (met (form-in false (ne-eqb _ _ n))))
 
       module _ (z14 : front .front .form ≡ 1) where
         past-form : {n : ℕ} → Tested (drop 4 (headerTests h)) n → n ≡ headerRefusal h
-        past-form a = past-sync (unmet z13 (unmet (form-in true (eq-eqb _ _ z14)) a))
+        past-form a = past-packet-sync (unmet z13 (unmet (form-in true (eq-eqb _ _ z14)) a))
 
         slot-bit : slotBitWrong h ≡ not (front .fixed)
         slot-bit = sym (ap (λ (f : FrontFound). not (f .fixed)) ef ∙ Bool·not-not (slotBitWrong h))
 
-        states : among 3 (frontIn h .states) ≡ among 3 (front .front .states)
-        states = sym (ap (λ (f : Front). among 3 (f .states)) is-front)
+        states : member 3 (frontIn h .states) ≡ member 3 (front .front .states)
+        states = sym (ap (λ (f : Front). member 3 (f .states)) is-front)
 
         pub slot-bit-refused : not (front .fixed) ≡ true → 15 ≡ headerRefusal h
-        slot-bit-refused e = past-form (met (ap (_|| (among 3 (frontIn h .states) || extensionWrong h)) (slot-bit ∙ e)))
+        slot-bit-refused e = past-form (met (ap (_|| (member 3 (frontIn h .states) || extensionWrong h)) (slot-bit ∙ e)))
 
-        pub state-refused : among 3 (front .front .states) ≡ true → 15 ≡ headerRefusal h
+        pub state-refused : member 3 (front .front .states) ≡ true → 15 ≡ headerRefusal h
         state-refused e = past-form (met (ap (λ t. slotBitWrong h || (t || extensionWrong h)) (states ∙ e) ∙ or-true (slotBitWrong h)))
 
         module _ (extension : ExtensionFound) (ee : extension ≡ extensionFound h) where
@@ -70,10 +71,10 @@ module _ (h : List ℕ) (l : length h ≡ 188) (front : FrontFound) (ef : front 
           pub extension-refused : not (extension .fixed) ≡ true → 15 ≡ headerRefusal h
           extension-refused e =
               past-form
-              (met (ap (λ t. slotBitWrong h || (among 3 (frontIn h .states) || t)) (extension-bits ∙ e)
-              ∙ ap (slotBitWrong h ||_) (or-true (among 3 (frontIn h .states))) ∙ or-true (slotBitWrong h)))
+              (met (ap (λ t. slotBitWrong h || (member 3 (frontIn h .states) || t)) (extension-bits ∙ e)
+              ∙ ap (slotBitWrong h ||_) (or-true (member 3 (frontIn h .states))) ∙ or-true (slotBitWrong h)))
 
-          pub none-refused : not (front .fixed) ≡ false → among 3 (front .front .states) ≡ false → not (extension .fixed) ≡ false → 0 ≡ headerRefusal h
+          pub none-refused : not (front .fixed) ≡ false → member 3 (front .front .states) ≡ false → not (extension .fixed) ≡ false → 0 ≡ headerRefusal h
           none-refused a b c = past-form (unmet (rw (slot-bit ∙ a, states ∙ b, extension-bits ∙ c)) end)
 
 -- ---- the header beside its number

@@ -5,7 +5,8 @@ use Prim.Native.Nat.{ℕ, _/_, _^_}
 use lib.ListN.{drop}
 use borrow.Author.Tests.{eq-eqb, ne-eqb}
 use Rattle.bits.proofs.Refusal.{Tested, end, met, unmet, tested}
-use Rattle.header.specs.Tests.{among, tooWide}
+use Rattle.gf2.specs.Polynomial.{member}
+use Rattle.header.specs.Tests.{tooWide}
 use Rattle.header.specs.Header.{recordTests, recordRefusal}
 use Rattle.header.specs.declared.Header.{Header}
 
@@ -15,21 +16,21 @@ module _ (r : Header) where
   wide-refused e = tested (met e)
 
   module _ (z10 : tooWide r ≡ false) where
-    pub sync-refused : (r .front .packet / 2 ^ 24 ≡ 0x47 → ⊥) → 12 ≡ recordRefusal r
+    pub packet-sync-refused : (r .front .packet / 2 ^ 24 ≡ 0x47 → ⊥) → 12 ≡ recordRefusal r
     unfolding recordRefusal
-    sync-refused n = tested (unmet z10 (met (ap not (ne-eqb _ _ n))))
+    packet-sync-refused n = tested (unmet z10 (met (ap not (ne-eqb _ _ n))))
 
     module _ (z12 : r .front .packet / 2 ^ 24 ≡ 0x47) where
-      past-sync : {n : ℕ} → Tested (drop 2 (recordTests r)) n → n ≡ recordRefusal r
+      past-packet-sync : {n : ℕ} → Tested (drop 2 (recordTests r)) n → n ≡ recordRefusal r
       unfolding recordRefusal
-      past-sync a = tested (unmet z10 (unmet (ap not (eq-eqb _ _ z12)) a))
+      past-packet-sync a = tested (unmet z10 (unmet (ap not (eq-eqb _ _ z12)) a))
 
       pub form-refused : (r .front .form ≡ 1 → ⊥) → 14 ≡ recordRefusal r
-      form-refused n = past-sync (met (ap not (ne-eqb _ _ n)))
+      form-refused n = past-packet-sync (met (ap not (ne-eqb _ _ n)))
 
       module _ (z14 : r .front .form ≡ 1) where
-        pub state-refused : among 3 (r .front .states) ≡ true → 15 ≡ recordRefusal r
-        state-refused e = past-sync (unmet (ap not (eq-eqb _ _ z14)) (met e))
+        pub state-refused : member 3 (r .front .states) ≡ true → 15 ≡ recordRefusal r
+        state-refused e = past-packet-sync (unmet (ap not (eq-eqb _ _ z14)) (met e))
 
-        pub none-refused : among 3 (r .front .states) ≡ false → 0 ≡ recordRefusal r
-        none-refused e = past-sync (unmet (ap not (eq-eqb _ _ z14)) (unmet e end))
+        pub none-refused : member 3 (r .front .states) ≡ false → 0 ≡ recordRefusal r
+        none-refused e = past-packet-sync (unmet (ap not (eq-eqb _ _ z14)) (unmet e end))

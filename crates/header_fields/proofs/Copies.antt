@@ -10,7 +10,7 @@ use lib.Dec.{eqb}
 use lib.ListN.{length, getD, take, drop, set, replicate, length-append, length-replicate}
 use lib.Seq.{paste, paste-suc, take-at, take-all, drop-cons, drop-drop, drop-length, drop-append-add, set-at, append-snoc}
 use Rattle.header.specs.Fields.{run, pairs}
-use Rattle.header.specs.Tests.{among}
+use Rattle.gf2.specs.Polynomial.{member}
 
 -- ---- a run
 
@@ -124,6 +124,6 @@ filled-all {p} {z} {v} {k} f e = f .is ∙ ap (p ++_) (ap (λ (n : ℕ). drop n 
 
 -- ---- a search
 
-pub among-next : (x : ℕ) (v : List ℕ) (i : ℕ) → i < length v → among x (drop i v) ≡ (eqb x (getD v i 0) || among x (drop (i + 1) v))
-unfolding among
-among-next x v i h = rw (add-one, drop-cons v i 0 h)
+pub member-next : (x : ℕ) (v : List ℕ) (i : ℕ) → i < length v → member x (drop i v) ≡ (eqb x (getD v i 0) || member x (drop (i + 1) v))
+unfolding member
+member-next x v i h = rw (add-one, drop-cons v i 0 h)

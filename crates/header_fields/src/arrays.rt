@@ -4,7 +4,7 @@ ghost use Prim.Native.Nat.{_+_, _*_, _<_, _≤_};
 ghost use lib.ListN.{length, replicate};
 ghost use lib.Seq.{paste};
 ghost use Rattle.header.specs.Fields.{run, pairs};
-ghost use Rattle.header.specs.Tests.{among};
+ghost use Rattle.gf2.specs.Polynomial.{member};
 
 pub fn zeros15() -> [u64; 15]
     ensures { λ r. ⌜ r ≡ replicate 15 0 ⌝ }
@@ -72,7 +72,7 @@ pub fn put_pairs(s: &[u64], t: &[u64], out: &mut [u64], k: usize)
 
 // Whether x is among the values.
 pub fn has(v: &[u64], x: u64) -> bool
-    ensures { λ r. ⌜ r ≡ among x (now (v .entry)) ⌝ }
+    ensures { λ r. ⌜ r ≡ member x (now (v .entry)) ⌝ }
 {
     let mut i = 0;
     while i < v.len() {

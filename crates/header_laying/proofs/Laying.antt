@@ -15,10 +15,10 @@ use Rattle.crc.specs.Crc.{crc32Of}
 use Rattle.frame.proofs.Parts.{inner-part}
 use Rattle.header.specs.Layout.{frontLayout, extensionLayout}
 use Rattle.header.specs.Fields.{frontOf}
-use Rattle.header.specs.Tests.{among}
+use Rattle.gf2.specs.Polynomial.{member}
 use Rattle.header.specs.Header.{frontIn, sealed}
 use Rattle.header_laying.specs.Laying.{acBits, withAc}
-use Rattle.header_laying.specs.Promises.{SameOutside}
+use Rattle.header_laying.specs.Promises.{SameOutsideAc}
 use Rattle.header.specs.declared.Front.{Front}
 use Rattle.header.proofs.Sealed.{Bytes-take, Bytes-drop, length-sealed, sealed-front, sealed-extension, sealed-crc, sealed-only}
 use Rattle.header.proofs.Headers.{Accepted}
@@ -118,7 +118,7 @@ module _ (h : List ℕ) (bs : List Bool) (size : length h ≡ 188) (lb : length 
   unfolding frontIn
   withAc-frontIn = ap (λ (x : List ℕ). frontOf (unpackSegments frontLayout (bits x))) withAc-front
 
-  pub withAc-outside : SameOutside (withAc h bs) h
+  pub withAc-outside : SameOutsideAc (withAc h bs) h
   withAc-outside =
       record {
         size = length-withAc ∙ sym size;
@@ -139,11 +139,11 @@ withAc-accepted h bs lb a =
     let k = withAc h bs in
     record {
       size = length-withAc h bs size lb;
-      sync = ap (λ (f : Front). f .packet / 2 ^ 24) front ∙ a .sync;
+      packet-sync = ap (λ (f : Front). f .packet / 2 ^ 24) front ∙ a .packet-sync;
       crc = withAc-crc h bs size lb;
       form = ap (λ (f : Front). f .form) front ∙ a .form;
       slot-bit = ap (λ (x : List ℕ). fixedBitsHold frontLayout (bits x)) (withAc-front h bs size lb) ∙ a .slot-bit;
-      states = ap (λ (f : Front). among 3 (f .states)) front ∙ a .states;
+      states = ap (λ (f : Front). member 3 (f .states)) front ∙ a .states;
       ones =
           ones-test (bits (take 85 (drop 99 k)))
           ∙ ap (fixedBitsHold onesLayout) (withAc-after h bs size lb)

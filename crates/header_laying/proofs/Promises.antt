@@ -24,7 +24,7 @@ use Rattle.frame.proofs.Promises as frame
 use Rattle.header.specs.Header.{frontIn, headerRefusal}
 use Rattle.header.proofs.Headers as headers
 use Rattle.header_laying.specs.Laying.{acBits, withAc, repairedBits, layInNumber, layInOf, takeOutOf}
-use Rattle.header_laying.specs.Promises.{SameOutside, Laying}
+use Rattle.header_laying.specs.Promises.{SameOutsideAc, Laying}
 use Rattle.header_laying.proofs.Laying.{withAc-bits, withAc-frontIn, withAc-outside, withAc-again, withAc-accepted, withAc-own}
 
 -- a header that is changed only where nothing is refused
@@ -93,7 +93,7 @@ size h e = headers.accepted h e .size
 accepted-with : (h : List ℕ) (bs : List Bool) → length bs ≡ 204 → headerRefusal h ≡ 0 → headerRefusal (withAc h bs) ≡ 0
 accepted-with h bs l e = headers.accepts (withAc h bs) (withAc-accepted h bs l (headers.accepted h e))
 
-unchanged-outside : (h : List ℕ) → SameOutside h h
+unchanged-outside : (h : List ℕ) → SameOutsideAc h h
 unchanged-outside h = record { size = refl; front = refl; rest = refl }
 
 module _ (h f : List ℕ) (e : layInNumber h f ≡ 0) where
@@ -124,10 +124,10 @@ module _ (h f : List ℕ) (e : layInNumber h f ≡ 0) where
   back-again b o =
       taken-laid ∙ taken h header-accepted ∙ ap (withAc h) (sym o) ∙ withAc-own h b (headers.accepted h header-accepted)
 
-laid-outside : (h f : List ℕ) → SameOutside (layInOf h f) h
+laid-outside : (h f : List ℕ) → SameOutsideAc (layInOf h f) h
 unfolding layInOf
 laid-outside h f =
-    changed (λ (k : List ℕ). SameOutside k h) (layInNumber h f) (withAc h (repairedBits f)) h
+    changed (λ (k : List ℕ). SameOutsideAc k h) (layInNumber h f) (withAc h (repairedBits f)) h
     (λ e. withAc-outside h (repairedBits f) (size h (header-accepted h f e)) (length-repaired f)) (unchanged-outside h)
 
 laid-front : (h f : List ℕ) → frontIn (layInOf h f) ≡ frontIn h
@@ -136,10 +136,10 @@ laid-front h f =
     changed (λ (k : List ℕ). frontIn k ≡ frontIn h) (layInNumber h f) (withAc h (repairedBits f)) h
     (λ e. withAc-frontIn h (repairedBits f) (size h (header-accepted h f e)) (length-repaired f)) refl
 
-taken-outside : (h : List ℕ) → SameOutside (takeOutOf h) h
+taken-outside : (h : List ℕ) → SameOutsideAc (takeOutOf h) h
 unfolding takeOutOf
 taken-outside h =
-    changed (λ (k : List ℕ). SameOutside k h) (headerRefusal h) (withAc h (replicate 204 true)) h
+    changed (λ (k : List ℕ). SameOutsideAc k h) (headerRefusal h) (withAc h (replicate 204 true)) h
     (λ e. withAc-outside h (replicate 204 true) (size h e) length-ones) (unchanged-outside h)
 
 taken-accepted : (h : List ℕ) → headerRefusal h ≡ 0 → headerRefusal (takeOutOf h) ≡ 0

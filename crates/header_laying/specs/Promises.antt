@@ -15,7 +15,7 @@ use Rattle.header.specs.Header.{frontIn, headerRefusal}
 use Rattle.header_laying.specs.Laying.{acBits, repairedBits, layInNumber, layInOf, takeOutOf}
 
 -- two headers agree outside the 204 AC bits and the CRC
-pub record SameOutside (h k : List ℕ) : Type 0 where
+pub record SameOutsideAc (h k : List ℕ) : Type 0 where
   pub size : length h ≡ length k
   -- bytes 0 to 98
   pub front : take 99 h ≡ take 99 k
@@ -31,14 +31,14 @@ pub record Laying : Type 0 where
   pub laid-read : (h f : List ℕ) (r : Record) (d : Damage) → headerRefusal h ≡ 0 → readOf f ≡ Accepted r d
       → readOf (bytes 26 (acBits (layInOf h f) ++ zeros 4)) ≡ Accepted r (record { repaired = 0 })
   -- everything else stays, the change number too
-  pub laid-outside : (h f : List ℕ) → SameOutside (layInOf h f) h
+  pub laid-outside : (h f : List ℕ) → SameOutsideAc (layInOf h f) h
   pub laid-front : (h f : List ℕ) → frontIn (layInOf h f) ≡ frontIn h
   -- laying in twice is laying in the second
   pub laid-twice : (h f g : List ℕ) → layInNumber h f ≡ 0 → frameRefusal g ≡ 0 → layInOf (layInOf h f) g ≡ layInOf h g
   -- taking out leaves 204 ones in an accepted header, and all else as it was
   pub taken-accepted : (h : List ℕ) → headerRefusal h ≡ 0 → headerRefusal (takeOutOf h) ≡ 0
   pub taken-bits : (h : List ℕ) → headerRefusal h ≡ 0 → acBits (takeOutOf h) ≡ replicate 204 true
-  pub taken-outside : (h : List ℕ) → SameOutside (takeOutOf h) h
+  pub taken-outside : (h : List ℕ) → SameOutsideAc (takeOutOf h) h
   -- taking out after laying in is taking out alone
   pub taken-laid : (h f : List ℕ) → layInNumber h f ≡ 0 → takeOutOf (layInOf h f) ≡ takeOutOf h
   -- so that a header that carried no frame comes back byte for byte

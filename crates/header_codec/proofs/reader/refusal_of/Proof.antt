@@ -2,7 +2,7 @@
 use mathlib.Core.Path.{_≡_, _∙_, sym}
 use denote.Ref.{now}
 use lib.ListN.{length}
-use Rattle.header_codec.proofs.HeaderRefusals.{sync-refused, crc-refused, form-refused, slot-bit-refused, state-refused, extension-refused, none-refused}
+use Rattle.header_codec.proofs.HeaderRefusals.{packet-sync-refused, crc-refused, form-refused, slot-bit-refused, state-refused, extension-refused, none-refused}
 use borrow.Author.Needs.{needs}
 use Rattle.header_codec.proofs.reader.refusal_of.Statement.{statement}
 use Rattle.header_codec.proofs.reader.refusal_of.Tie as tie
@@ -15,7 +15,7 @@ returns c =
     let s = c .before .before .before .before in
     let h = now (s .args .h) in
     let p = s .pre in
-    sync-refused h (p .0) (s .args .front) (p .1) (c .if1 .taken)
+    packet-sync-refused h (p .0) (s .args .front) (p .1) (c .if1 .taken)
 
 crc-wrong-requires : tie.Need-crc-wrong-requires
 crc-wrong-requires c κs = search needs

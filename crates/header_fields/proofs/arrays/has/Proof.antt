@@ -7,13 +7,13 @@ use borrow.Author.Tests.{eq-eqb, ne-eqb}
 use denote.Ref.{now}
 use lib.ListN.{length, getD, drop}
 use lib.Seq.{drop-length}
-use Rattle.header.specs.Tests.{among}
-use Rattle.header_fields.proofs.Copies.{among-next}
+use Rattle.gf2.specs.Polynomial.{member}
+use Rattle.header_fields.proofs.Copies.{member-next}
 use Rattle.header_fields.proofs.arrays.has.Statement.{statement}
 use Rattle.header_fields.proofs.arrays.has.Tie as tie
 
 abbrev Inv-loop : tie.InvT-loop
-Inv-loop v x i₀ i = (i ≤ length v) × (among x v ≡ among x (drop i v))
+Inv-loop v x i₀ i = (i ≤ length v) × (member x v ≡ member x (drop i v))
 
 abbrev μ-loop : tie.MeasureT-loop
 μ-loop v x i₀ i = length v - i
@@ -32,7 +32,7 @@ returns c =
     let a = c .before .before .before .before .args in
     let l = c .before .before .before .loop in
     let v = now (a .v) in
-    sym (l .inv .1 ∙ among-next (a .x) v (l .i) (omega arith) ∙ ap (_|| among (a .x) (drop (l .i + 1) v)) (eq-eqb (a .x) (getD v (l .i) 0) (c .if1 .taken)))
+    sym (l .inv .1 ∙ member-next (a .x) v (l .i) (omega arith) ∙ ap (_|| member (a .x) (drop (l .i + 1) v)) (eq-eqb (a .x) (getD v (l .i) 0) (c .if1 .taken)))
 
 add-i : tie.Need-add-i Inv-loop μ-loop
 add-i c = omega arith
@@ -46,17 +46,17 @@ loop-again c =
     let l = c .before .before .before .loop in
     let v = now (a .v) in (
       omega arith,
-      l .inv .1 ∙ among-next (a .x) v (l .i) (omega arith) ∙ ap (_|| among (a .x) (drop (l .i + 1) v)) (ne-eqb (a .x) (getD v (l .i) 0) (c .if1 .left)),
+      l .inv .1 ∙ member-next (a .x) v (l .i) (omega arith) ∙ ap (_|| member (a .x) (drop (l .i + 1) v)) (ne-eqb (a .x) (getD v (l .i) 0) (c .if1 .left)),
     )
 
 returns-2 : tie.Need-returns-2 Inv-loop μ-loop
-unfolding among
+unfolding member
 returns-2 c =
     let a = c .before .before .args in
     let l = c .before .loop in
     let v = now (a .v) in
     let e : l .i ≡ length v = omega arith in
-    sym (l .inv .1 ∙ ap (among (a .x)) (ap (λ (k : ℕ). drop k v) e ∙ drop-length v))
+    sym (l .inv .1 ∙ ap (member (a .x)) (ap (λ (k : ℕ). drop k v) e ∙ drop-length v))
 
 pub has-spec : {M : Type 1} → statement M
 has-spec =
