@@ -8,7 +8,7 @@ unfoldable pub frontLayout : List Segment
 frontLayout =
     -- packet header, multiplex frame sync, change number: the table's widths. The annexes 1 and 2, on the first two, are omitted in 002
     field 32 ∷ field 16 ∷ field 3
-    -- slot information (annex 3): method, multiplex form, validity of streams 1 to 15, an undefined bit with the value 1
+    -- slot information (annex 3): method, multiplex form, validity of streams 1 to 15, an undefined bit, which is fixed at 1
     ∷ field 1 ∷ field 4 ∷ (replicate 15 (field 1) ++ fixedOnes 1
     -- stream id and original network id of streams 1 to 15 (annex 4)
     ∷ (replicate 30 (field 16)

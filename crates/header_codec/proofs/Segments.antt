@@ -40,23 +40,22 @@ module _ (l : List Segment) (ks ws : List ℕ) (ek : ks ≡ kindsOf l) (ew : ws 
   pub tables : segments ks ws ≡ l
   tables = ap₂ segments ek ew ∙ segments-kinds l
 
-  pub read-room : (n m k : ℕ) (out : List ℕ) → Row l n m → k ≡ n → length out ≡ m
-      → Layout ws k × (length ks ≡ length ws) × (length out ≡ length (freeWidths (segments ks ws)))
-  read-room n m k out r e o =
-      (rw (ew, e) (r .layout), ap length ek ∙ r .kinds ∙ sym (ap length ew), o ∙ sym (r .fields) ∙ sym (ap (λ x. length (freeWidths x)) tables))
+  pub read-room : (n m k o : ℕ) → Row l n m → k ≡ n → o ≡ m → Layout ws k × (length ks ≡ length ws) × (o ≡ length (freeWidths (segments ks ws)))
+  read-room n m k o r e p =
+      (rw (ew, e) (r .layout), ap length ek ∙ r .kinds ∙ sym (ap length ew), p ∙ sym (r .fields) ∙ sym (ap (λ x. length (freeWidths x)) tables))
 
-  -- what `read_fields` answers
-  pub read-fixed : (bs : List Bool) (b : Bool) → b ≡ fixedBitsHold (segments ks ws) bs → b ≡ not (not (fixedBitsHold l bs))
-  read-fixed bs b e = e ∙ ap (λ x. fixedBitsHold x bs) tables ∙ sym (Bool·not-not (fixedBitsHold l bs))
-
-  pub read-values : (bs : List Bool) (vs : List ℕ) → vs ≡ unpackSegments (segments ks ws) bs → vs ≡ unpackSegments l bs
-  read-values bs vs e = e ∙ ap (λ x. unpackSegments x bs) tables
+  -- what `read_fields` answers, and what is made of the values
+  pub part-read : {A : Type 0} (of : List ℕ → A) (bs : List Bool) (b : Bool) (vs : List ℕ) (x : A)
+      → (b ≡ fixedBitsHold (segments ks ws) bs) × (vs ≡ unpackSegments (segments ks ws) bs) → x ≡ of vs
+      → (b ≡ not (not (fixedBitsHold l bs))) × (x ≡ of (unpackSegments l bs))
+  part-read of bs b vs x e f =
+      (e .0 ∙ ap (λ y. fixedBitsHold y bs) tables ∙ sym (Bool·not-not (fixedBitsHold l bs)), f ∙ ap of (e .1 ∙ ap (λ y. unpackSegments y bs) tables))
 
   -- what `write_fields` asks, and what it leaves
   pub write-room : (n m k : ℕ) (vs : List ℕ) → Row l n m → n ≤ k → length vs ≡ m → m < 65536
       → Layout ws k × (length ks ≡ length ws) × (length vs ≡ length (freeWidths (segments ks ws))) × (length vs < 65536)
   write-room n m k vs r h o z =
-      let p = read-room n m n vs r refl o in
+      let p = read-room n m n (length vs) r refl o in
       (record { narrow = p .0 .narrow; room = omega (arith, p .0 .room); short = p .0 .short }, p .1, p .2, omega arith)
 
   pub written : (n m : ℕ) (vs s t : List ℕ) → Row l n m → n ≤ length s → length t ≡ length s → Bytes s → Bytes t
