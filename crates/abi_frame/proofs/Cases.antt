@@ -9,7 +9,6 @@ use borrow.Author.Tests.{eq-eqb, ne-eqb}
 use Rattle.bits.specs.Bits.{digit}
 use Rattle.frame.specs.Fields.{fields}
 use Rattle.frame.specs.Read.{readOf}
-use Rattle.frame.specs.Write.{writeNumber, writeOf}
 use Rattle.frame.specs.Area.{warnedIn}
 use Rattle.frame.proofs.Promises.{demand2}
 use Rattle.frame.specs.declared.Record.{Record}
@@ -17,7 +16,7 @@ use Rattle.frame.specs.declared.Damage.{Damage}
 use Rattle.frame.specs.declared.Reading.{Reading}
 use Rattle.frame.specs.declared.Reading.the-variants.{Accepted, Refused}
 use Rattle.abi.specs.Status.{statusOf}
-use Rattle.abi_frame.specs.Frame.{recordFrom, frameReadStatus, frameReadRecord, frameWriteStatus, frameWriteBytes, warnedStatus}
+use Rattle.abi_frame.specs.Frame.{recordFrom, frameReadStatus, frameReadRecord, warnedStatus}
 
 -- ---- reading: the status n and the buffer t
 
@@ -34,20 +33,6 @@ module _ (f s : List ℕ) {n : ℕ} {t : List ℕ} where
   pub read-refused : {m : ℕ} → length s ≡ 18 → readOf f ≡ Refused m → n ≡ statusOf m 0 → t ≡ s → (n ≡ frameReadStatus f s) × (t ≡ frameReadRecord f s)
   unfolding frameReadStatus frameReadRecord
   read-refused {m} l e p q = let z = eq-eqb (length s) 18 l in (rw (z, e) p, rw (z, e, ne-eqb m 0 (demand2 .judged-refused f m e .0)) q)
-
--- ---- writing
-
-module _ (v s : List ℕ) {n : ℕ} {t : List ℕ} where
-  pub write-wrong : length v ≢ 18 → n ≡ statusOf 1 0 → t ≡ s → (n ≡ frameWriteStatus v s) × (t ≡ frameWriteBytes v s)
-  unfolding frameWriteStatus frameWriteBytes
-  write-wrong h e p = let z = ne-eqb (length v) 18 h in (rw z e, rw z p)
-
-  pub write-answered : {r : Record} {m : ℕ} → length v ≡ 18 → r ≡ recordFrom v → m ≡ writeNumber r (length s) → n ≡ statusOf m 0 → t ≡ writeOf r s
-      → (n ≡ frameWriteStatus v s) × (t ≡ frameWriteBytes v s)
-  unfolding frameWriteStatus frameWriteBytes
-  write-answered l e a p q =
-      let z = eq-eqb (length v) 18 l in
-      (rw z (p ∙ ap (λ (k : ℕ). statusOf k 0) (a ∙ ap (λ (r : Record). writeNumber r (length s)) e)), rw z (q ∙ ap (λ (r : Record). writeOf r s) e))
 
 -- ---- an area: the status n
 

@@ -8,14 +8,14 @@ use lib.ListN.{length}
 use lib.Seq.{paste}
 use borrow.Author.Tests.{eq-eqb, ne-eqb}
 use Rattle.header.specs.Fields.{run, frontFields, frontOf, extensionFields, extensionOf}
-use Rattle.header.specs.Header.{headerRefusal, headerReadOf, writeNumber, writeOf}
+use Rattle.header.specs.Header.{headerRefusal, headerReadOf}
 use Rattle.header.specs.declared.Front.{Front}
 use Rattle.header.specs.declared.Extension.{Extension}
 use Rattle.header.specs.declared.Header.{Header}
 use Rattle.header.specs.declared.HeaderReading.{HeaderReading}
 use Rattle.header_fields.proofs.Copies.{Filled, filled-none, filled-row, filled-all}
 use Rattle.abi.specs.Status.{statusOf}
-use Rattle.abi_header.specs.Header.{headerValues, headerFrom, headerReadStatus, headerReadValues, headerWriteStatus, headerWriteBytes}
+use Rattle.abi_header.specs.Header.{headerValues, headerFrom, headerReadStatus, headerReadValues}
 
 -- ---- a header and its fields
 
@@ -60,17 +60,3 @@ module _ (h s : List ℕ) {n : ℕ} {t : List ℕ} where
       let m : headerRefusal h ≡ 0 = sym (read-number h a e) ∙ z in
       let x = eq-eqb (headerRefusal h) 0 m in
       (rw y (p ∙ ap (λ (k : ℕ). statusOf k 0) (sym m)), rw (y, x) (q ∙ ap (λ (b : HeaderReading). headerValues (b .header)) e))
-
--- ---- writing
-
-module _ (v s : List ℕ) {n : ℕ} {t : List ℕ} where
-  pub write-wrong : length v ≢ 145 → n ≡ statusOf 1 0 → t ≡ s → (n ≡ headerWriteStatus v s) × (t ≡ headerWriteBytes v s)
-  unfolding headerWriteStatus headerWriteBytes
-  write-wrong z e p = let y = ne-eqb (length v) 145 z in (rw y e, rw y p)
-
-  pub write-answered : {r : Header} {m : ℕ} → length v ≡ 145 → r ≡ headerFrom v → m ≡ writeNumber r (length s) → n ≡ statusOf m 0 → t ≡ writeOf r s
-      → (n ≡ headerWriteStatus v s) × (t ≡ headerWriteBytes v s)
-  unfolding headerWriteStatus headerWriteBytes
-  write-answered l e a p q =
-      let y = eq-eqb (length v) 145 l in
-      (rw y (p ∙ ap (λ (k : ℕ). statusOf k 0) (a ∙ ap (λ (r : Header). writeNumber r (length s)) e)), rw y (q ∙ ap (λ (r : Header). writeOf r s) e))

@@ -108,7 +108,3 @@ none-append ((n, given) ∷ ts) us h k = (h .0, none-append ts us (h .1) k)
 pub none-split : (ts us : List (ℕ × Bool)) → NoneGiven (ts ++ us) → NoneGiven ts × NoneGiven us
 none-split [] us h = (tt, h)
 none-split ((n, given) ∷ ts) us h = let r = none-split ts us (h .1) in ((h .0, r .0), r .1)
-
-pub neither : (s t : Bool) → (s || t) ≡ false → (s ≡ false) × (t ≡ false)
-neither false t e = (refl, e)
-neither true t e = absurd (true≢false e)

@@ -1,41 +1,25 @@
 -- `abi_header::header_write` meets its contract. Assumes nothing.
 use mathlib.Core.Path.{refl}
 use borrow.Author.Needs.{needs}
-use Rattle.abi_header.proofs.Cases.{write-wrong, write-answered}
+use Rattle.header.specs.Header.{writeNumber, writeOf}
+use Rattle.abi.proofs.Writing.{Written, write-wrong, write-answered}
+use Rattle.abi_header.specs.Header.{headerFrom, headerWriteStatus, headerWriteBytes}
 use Rattle.abi_header.proofs.header_write.Statement.{statement}
 use Rattle.abi_header.proofs.header_write.Tie as tie
 
-status-requires : tie.Need-status-requires
-status-requires c κs = search needs
+written : Written 145 headerFrom writeNumber writeOf headerWriteStatus headerWriteBytes
+unfolding headerWriteStatus headerWriteBytes
+written = record { is-status = λ v s. refl; is-buffer = λ v s. refl }
 
 returns : tie.Need-returns
-returns c = write-wrong _ _ (c .before .if1 .taken) (c .status .ensures) refl
-
-header-from-requires : tie.Need-header-from-requires
-header-from-requires c κs = search needs
-
-write-requires : tie.Need-write-requires
-write-requires c κs = search needs
-
-status-requires-2 : tie.Need-status-requires-2
-status-requires-2 c κs = search needs
-
-same-length : tie.Need-same-length
-same-length c = search needs
+returns c = write-wrong written _ _ (c .before .if1 .taken) (c .status .ensures) refl
 
 returns-2 : tie.Need-returns-2
 returns-2 c =
-    let write = c .before .before .before .write in
-    write-answered _ _ (c .before .before .before .before .before .before .if1 .left) (c .before .before .before .before .before .header-from .ensures) (write .ensures .0) (c .status2 .ensures) (write .ensures .1)
+    let write = c .before .before .before in
+    let from = write .before .before in
+    write-answered written _ _ (from .before .if1 .left) (from .header-from .ensures) (write .write .ensures .0) (c .status2 .ensures) (write .write .ensures .1)
 
 pub header-write-spec : {M : Type 1} → statement M
 header-write-spec =
-    tie.close
-    (tie.spec
-    status-requires
-    returns
-    header-from-requires
-    write-requires
-    status-requires-2
-    same-length
-    returns-2)
+    tie.close (tie.spec (λ c κs. search needs) returns (λ c κs. search needs) (λ c κs. search needs) (λ c κs. search needs) (λ c. search needs) returns-2)
