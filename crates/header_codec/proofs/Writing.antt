@@ -1,12 +1,12 @@
 -- A header's bytes, part after part. Assumes nothing.
 use mathlib.Core.Path.{_≡_, sym, ap, ap₂, _∙_}
 use mathlib.Core.Bool.{Bool, true, cond, not, _&&_}
-use mathlib.Core.List.{List, [], _∷_, _++_, append-nil, append-assoc}
-use Prim.Native.Nat.{ℕ, zero, suc, _+_, _-_, _*_, _≤_}
+use mathlib.Core.List.{List, [], _++_, append-nil, append-assoc}
+use Prim.Native.Nat.{ℕ, _+_, _-_, _*_, _≤_}
 use native.Mathlib.Omega.{arith}
 use lib.Dec.{eqb}
 use lib.ListN.{length, take, drop, length-append, length-drop, take-append-drop, drop-of-length-le}
-use lib.Seq.{take-at, drop-at, take-all, take-add, length-take-le, getD-drop}
+use lib.Seq.{take-at, drop-at, take-all, take-add, length-take-le}
 use borrow.Author.Tests.{eq-eqb, ne-eqb, not-true}
 use Rattle.bits.specs.Bits.{bitsOf, bits, bytes, Bytes}
 use Rattle.bits.specs.Field.{within, putOf}
@@ -21,17 +21,9 @@ use Rattle.header.specs.Fields.{frontFields, extensionFields}
 use Rattle.header.specs.Tests.{tooWide}
 use Rattle.header.specs.Header.{recordRefusal, sealed, headerOf, writeNumber, writeOf}
 use Rattle.header.specs.declared.Header.{Header}
+use Rattle.header.proofs.Sealed.{Bytes-take, Bytes-drop}
 
 -- ---- rows of bytes in two parts
-
-Bytes-take : (n : ℕ) (s : List ℕ) → Bytes s → Bytes (take n s)
-Bytes-take zero s h i = omega arith
-Bytes-take (suc n) [] h i = omega arith
-Bytes-take (suc n) (x ∷ s) h zero = h 0
-Bytes-take (suc n) (x ∷ s) h (suc i) = Bytes-take n s (λ j. h (suc j)) i
-
-Bytes-drop : (n : ℕ) (s : List ℕ) → Bytes s → Bytes (drop n s)
-Bytes-drop n s h i = rw getD-drop (h (n + i))
 
 -- n bytes whose bits are a, and m whose bits are b
 pub bytes-parts : (t : List ℕ) (n m : ℕ) (a b : List Bool) → Bytes t → length t ≡ n + m → length a ≡ 8 * n → bits t ≡ a ++ b → t ≡ bytes n a ++ bytes m b

@@ -9,8 +9,9 @@ use native.Mathlib.Omega.{arith}
 use lib.Dec.{eqb}
 use lib.ListN.{length, getD, take, drop, set, replicate, length-append, length-replicate}
 use lib.Seq.{paste, paste-suc, take-at, take-all, drop-cons, drop-drop, drop-length, drop-append-add, set-at, append-snoc}
-use Rattle.header.specs.Fields.{run, pairs}
 use Rattle.gf2.specs.Polynomial.{member}
+use Rattle.header.specs.Fields.{run, pairs}
+use Rattle.header.proofs.Fields.{length-run}
 
 -- ---- a run
 
@@ -19,11 +20,6 @@ pub run-room : (k d i n m : ℕ) → i < n → k + d * n < m + d → k + d * i <
 run-room k d i n m h r =
     let l : d * suc i ≤ d * n = mul-le-mul-left d h in
     omega (arith, mul-suc d i)
-
-pub length-run : (v : List ℕ) (k d n : ℕ) → length (run v k d n) ≡ n
-unfolding run
-length-run v k d zero = refl
-length-run v k d (suc n) = ap suc (length-run v (k + d) d n)
 
 pub run-snoc : (v : List ℕ) (k d n : ℕ) → run v k d (suc n) ≡ run v k d n ++ getD v (k + d * n) 0 ∷ []
 unfolding run

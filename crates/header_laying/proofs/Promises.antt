@@ -55,24 +55,24 @@ module _ (h f : List ℕ) where
   unfolding layInNumber
   then-frame e = rw e
 
-  laid : layInNumber h f ≡ 0 → layInOf h f ≡ withAc h (repairedBits f)
+  pub laid-with : layInNumber h f ≡ 0 → layInOf h f ≡ withAc h (repairedBits f)
   unfolding layInOf
-  laid e = rw e
+  laid-with e = rw e
 
   laid-unchanged : layInNumber h f ≢ 0 → layInOf h f ≡ h
   unfolding layInOf
   laid-unchanged n = rw (ne-eqb (layInNumber h f) 0 n)
 
-taken : (h : List ℕ) → headerRefusal h ≡ 0 → takeOutOf h ≡ withAc h (replicate 204 true)
+pub taken-with : (h : List ℕ) → headerRefusal h ≡ 0 → takeOutOf h ≡ withAc h (replicate 204 true)
 unfolding takeOutOf
-taken h e = rw e
+taken-with h e = rw e
 
 taken-unchanged : (h : List ℕ) → headerRefusal h ≢ 0 → takeOutOf h ≡ h
 unfolding takeOutOf
 taken-unchanged h n = rw (ne-eqb (headerRefusal h) 0 n)
 
 -- the 204 bits that are laid in
-length-clean : (f : List ℕ) → length (cleanOf f) ≡ 26
+pub length-clean : (f : List ℕ) → length (cleanOf f) ≡ 26
 unfolding cleanOf
 length-clean f = length-bytes 26 _
 
@@ -86,7 +86,7 @@ length-repaired f = length-take-le 204 (bits (cleanOf f)) (omega (arith, length-
 length-ones : length (replicate 204 true) ≡ 204
 length-ones = length-replicate 204 true
 
-size : (h : List ℕ) → headerRefusal h ≡ 0 → length h ≡ 188
+pub size : (h : List ℕ) → headerRefusal h ≡ 0 → length h ≡ 188
 size h e = headers.accepted h e .size
 
 -- with other AC bits an accepted header is accepted
@@ -101,28 +101,28 @@ module _ (h f : List ℕ) (e : layInNumber h f ≡ 0) where
   header-accepted = laid-none h f e .0
 
   laid-accepted : headerRefusal (layInOf h f) ≡ 0
-  laid-accepted = ap headerRefusal (laid h f e) ∙ accepted-with h (repairedBits f) (length-repaired f) header-accepted
+  laid-accepted = ap headerRefusal (laid-with h f e) ∙ accepted-with h (repairedBits f) (length-repaired f) header-accepted
 
   laid-bits : acBits (layInOf h f) ≡ repairedBits f
-  laid-bits = ap acBits (laid h f e) ∙ withAc-bits h (repairedBits f) (size h header-accepted) (length-repaired f)
+  laid-bits = ap acBits (laid-with h f e) ∙ withAc-bits h (repairedBits f) (size h header-accepted) (length-repaired f)
 
   laid-twice : (g : List ℕ) → frameRefusal g ≡ 0 → layInOf (layInOf h f) g ≡ layInOf h g
   laid-twice g k =
-      laid (layInOf h f) g (then-frame (layInOf h f) g laid-accepted ∙ k)
-      ∙ ap (λ (x : List ℕ). withAc x (repairedBits g)) (laid h f e)
+      laid-with (layInOf h f) g (then-frame (layInOf h f) g laid-accepted ∙ k)
+      ∙ ap (λ (x : List ℕ). withAc x (repairedBits g)) (laid-with h f e)
       ∙ withAc-again h (repairedBits f) (size h header-accepted) (length-repaired f) (repairedBits g)
-      ∙ sym (laid h g (then-frame h g header-accepted ∙ k))
+      ∙ sym (laid-with h g (then-frame h g header-accepted ∙ k))
 
   taken-laid : takeOutOf (layInOf h f) ≡ takeOutOf h
   taken-laid =
-      taken (layInOf h f) laid-accepted
-      ∙ ap (λ (x : List ℕ). withAc x (replicate 204 true)) (laid h f e)
+      taken-with (layInOf h f) laid-accepted
+      ∙ ap (λ (x : List ℕ). withAc x (replicate 204 true)) (laid-with h f e)
       ∙ withAc-again h (repairedBits f) (size h header-accepted) (length-repaired f) (replicate 204 true)
-      ∙ sym (taken h header-accepted)
+      ∙ sym (taken-with h header-accepted)
 
   back-again : Bytes h → acBits h ≡ replicate 204 true → takeOutOf (layInOf h f) ≡ h
   back-again b o =
-      taken-laid ∙ taken h header-accepted ∙ ap (withAc h) (sym o) ∙ withAc-own h b (headers.accepted h header-accepted)
+      taken-laid ∙ taken-with h header-accepted ∙ ap (withAc h) (sym o) ∙ withAc-own h b (headers.accepted h header-accepted)
 
 laid-outside : (h f : List ℕ) → SameOutsideAc (layInOf h f) h
 unfolding layInOf
@@ -143,10 +143,10 @@ taken-outside h =
     (λ e. withAc-outside h (replicate 204 true) (size h e) length-ones) (unchanged-outside h)
 
 taken-accepted : (h : List ℕ) → headerRefusal h ≡ 0 → headerRefusal (takeOutOf h) ≡ 0
-taken-accepted h e = ap headerRefusal (taken h e) ∙ accepted-with h (replicate 204 true) length-ones e
+taken-accepted h e = ap headerRefusal (taken-with h e) ∙ accepted-with h (replicate 204 true) length-ones e
 
 taken-bits : (h : List ℕ) → headerRefusal h ≡ 0 → acBits (takeOutOf h) ≡ replicate 204 true
-taken-bits h e = ap acBits (taken h e) ∙ withAc-bits h (replicate 204 true) (size h e) length-ones
+taken-bits h e = ap acBits (taken-with h e) ∙ withAc-bits h (replicate 204 true) (size h e) length-ones
 
 -- the repaired bits and the filler are the repaired frame
 repaired-frame : (f : List ℕ) (r : Record) → frameOf r ≡ cleanOf f → bytes 26 (repairedBits f ++ zeros 4) ≡ cleanOf f
@@ -175,7 +175,7 @@ laid-read h f r d e a =
 pub laid-own : (h : List ℕ) (r : Record) → headerRefusal h ≡ 0 → Legal r → layInOf h (frameOf r) ≡ withAc h (take 204 (bits (frameOf r)))
 laid-own h r e l =
     let back = frame.demand2 .comes-back r l in
-    laid h (frameOf r) (then-frame h (frameOf r) e ∙ frame-accepted (frameOf r) r (record { repaired = 0 }) back)
+    laid-with h (frameOf r) (then-frame h (frameOf r) e ∙ frame-accepted (frameOf r) r (record { repaired = 0 }) back)
     ∙ ap (λ (g : List ℕ). withAc h (take 204 (bits g))) (sym (frame.demand2 .written-again (frameOf r) r (record { repaired = 0 }) back))
 
 pub laying : Laying
