@@ -2,17 +2,18 @@
 use mathlib.Core.Path.{_≡_, refl, sym, ap, ap₂, _∙_, subst}
 use mathlib.Core.Bool.{Bool, true, false, cond}
 use mathlib.Core.Logic.{_≢_}
-use mathlib.Core.List.{List, _++_}
+use mathlib.Core.List.{List, [], _++_}
 use Prim.Native.Nat.{ℕ}
 use native.Mathlib.Omega.{arith}
 use lib.Dec.{eqb}
 use lib.ListN.{length, take, drop, replicate, length-drop, length-replicate, take-append-drop}
 use lib.Seq.{take-all, length-take-le}
-use borrow.Author.Tests.{ne-eqb, eqb-true, eqb-false}
-use Rattle.bits.specs.Bits.{bits, bytes, Bytes}
-use Rattle.bits.specs.Refusal.{orElse}
+use borrow.Author.Tests.{eq-eqb, ne-eqb, eqb-true, eqb-false}
+use Rattle.bits.specs.Bits.{digit, odd, value, bitsOf, bits, bytes, Bytes}
+use Rattle.bits.specs.Refusal.{firstRefusal, orElse}
 use Rattle.bits.proofs.Bits.{length-bits, length-bytes, bytes-bits, bytes-Bytes}
 use Rattle.gf2.specs.Polynomial.{zeros}
+use Rattle.frame.specs.Pattern.{patternOf}
 use Rattle.frame.specs.Read.{frameRefusal, judgeOf, readOf, cleanOf}
 use Rattle.frame.specs.Write.{frameOf, Legal}
 use Rattle.frame.specs.declared.Record.{Record}
@@ -26,6 +27,11 @@ use Rattle.header.proofs.Headers as headers
 use Rattle.header_laying.specs.Laying.{acBits, withAc, repairedBits, layInNumber, layInOf, takeOutOf}
 use Rattle.header_laying.specs.Promises.{SameOutsideAc, Laying}
 use Rattle.header_laying.proofs.Laying.{withAc-bits, withAc-frontIn, withAc-outside, withAc-again, withAc-accepted, withAc-own}
+
+-- an empty header is refused with 1 and 26 zero bytes with 3: the answer is the header's number
+both-refused : layInNumber [] (replicate 26 0) ≡ 1
+unfolding layInNumber headerRefusal frameRefusal firstRefusal patternOf bits bitsOf odd value digit
+both-refused = refl
 
 -- a header that is changed only where nothing is refused
 changed : (P : List ℕ → Type 0) (n : ℕ) (x y : List ℕ) → (n ≡ 0 → P x) → P y → P (cond (eqb n 0) x y)
@@ -57,7 +63,7 @@ module _ (h f : List ℕ) where
 
   pub laid-with : layInNumber h f ≡ 0 → layInOf h f ≡ withAc h (repairedBits f)
   unfolding layInOf
-  laid-with e = rw e
+  laid-with e = ap (λ (t : Bool). cond t (withAc h (repairedBits f)) h) (eq-eqb (layInNumber h f) 0 e)
 
   laid-unchanged : layInNumber h f ≢ 0 → layInOf h f ≡ h
   unfolding layInOf
@@ -65,7 +71,7 @@ module _ (h f : List ℕ) where
 
 pub taken-with : (h : List ℕ) → headerRefusal h ≡ 0 → takeOutOf h ≡ withAc h (replicate 204 true)
 unfolding takeOutOf
-taken-with h e = rw e
+taken-with h e = ap (λ (t : Bool). cond t (withAc h (replicate 204 true)) h) (eq-eqb (headerRefusal h) 0 e)
 
 taken-unchanged : (h : List ℕ) → headerRefusal h ≢ 0 → takeOutOf h ≡ h
 unfolding takeOutOf
