@@ -19,10 +19,13 @@ use Rattle.abi_header.specs.Header.{headerValues, headerFrom, headerRead
 
 -- ---- a header and its fields
 
-pub from-parts : (v a b : List ℕ) (f : Front) (e : Extension) → a ≡ run v 0 1 119 → b ≡ run v 119 1 26 → f ≡ frontOf a → e ≡ extensionOf b
+-- k is the place where the extension's fields begin
+pub from-parts : (v a b : List ℕ) (k : ℕ) (f : Front) (e : Extension) → a ≡ run v 0 1 119 → b ≡ run v k 1 26 → k ≡ 119 → f ≡ frontOf a → e ≡ extensionOf b
     → record { front = f; extension = e } ≡ headerFrom v
 unfolding headerFrom
-from-parts v a b f e p q g h = ap₂ (λ (x : Front) (y : Extension). record { front = x; extension = y }) (g ∙ ap frontOf p) (h ∙ ap extensionOf q)
+from-parts v a b k f e p q w g h =
+    ap₂ (λ (x : Front) (y : Extension). record { front = x; extension = y }) (g ∙ ap frontOf p)
+    (h ∙ ap extensionOf (q ∙ ap (λ (j : ℕ). run v j 1 26) w))
 
 pub fields-put : (r : Header) (a s t u : List ℕ) → length s ≡ 145 → a ≡ frontFields (r .front) → length a ≡ 119 → length (r .extension .ac) ≡ 26
     → t ≡ paste s 0 a (length a) → u ≡ paste t 119 (r .extension .ac) (length (r .extension .ac)) → u ≡ headerValues r

@@ -1,4 +1,5 @@
 -- `abi_header::header_from` meets its contract. Assumes nothing.
+use mathlib.Core.Path.{refl}
 use borrow.Author.Needs.{needs}
 use Rattle.header_fields.proofs.Copies.{run-taken}
 use Rattle.abi_header.proofs.Cases.{from-parts}
@@ -32,8 +33,8 @@ extension-of-requires c κs = search needs
 returns : tie.Need-returns
 returns c =
     let first = run-taken _ _ 0 1 119 (c .before .before .before .before .before .before .before .before .before .take-run .ensures) (c .before .before .before .before .before .before .before .before .before .before .before .zeros119 .ensures) in
-    let second = run-taken _ _ 119 1 26 (c .before .before .before .before .before .take-run2 .ensures) (c .before .before .before .before .before .before .before .zeros26 .ensures) in
-    from-parts _ _ _ _ _ first second (c .before .before .front-of .ensures) (c .extension-of .ensures)
+    let second = run-taken _ _ _ 1 26 (c .before .before .before .before .before .take-run2 .ensures) (c .before .before .before .before .before .before .before .zeros26 .ensures) in
+    from-parts _ _ _ _ _ _ first second refl (c .before .before .front-of .ensures) (c .extension-of .ensures)
 
 pub header-from-spec : {M : Type 1} → statement M
 header-from-spec =
