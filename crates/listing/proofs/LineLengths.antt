@@ -34,7 +34,7 @@ pub line-short : (n : ℕ) (f : List ℕ) → n < 18446744073709551616 → lengt
 unfolding judgeOf
 line-short n f h = length-line n (judgeOf f) h (omega (arith, refusal-small f)) (omega (arith, places-small f))
 
-length-lines : (k n : ℕ) (s : List ℕ) → n + k < 18446744073709551616 → length (lines k n s) ≤ 32 * k
+pub length-lines : (k n : ℕ) (s : List ℕ) → n + k < 18446744073709551616 → length (lines k n s) ≤ 32 * k
 unfolding lines
 length-lines zero n s h = omega arith
 length-lines (suc k) n s h =

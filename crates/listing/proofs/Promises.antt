@@ -19,7 +19,7 @@ empty = refl
 
 -- ---- in turns
 
-turns : (s t : List ℕ) (k j n : ℕ) → length s ≡ 26 * k → lines (k + j) n (s ++ t) ≡ lines k n s ++ lines j (n + k) t
+pub turns : (s t : List ℕ) (k j n : ℕ) → length s ≡ 26 * k → lines (k + j) n (s ++ t) ≡ lines k n s ++ lines j (n + k) t
 turns [] t zero j n h =
     let a : 0 + j ≡ j = omega arith in
     let b : n + 0 ≡ n = omega arith in
@@ -31,6 +31,15 @@ turns s t (suc k) j n h =
     rw (a, b, lines-next (k + j) n (s ++ t), lines-next k n s, take-append-le 26 s t (omega arith), drop-append-le 26 s t (omega arith), append-assoc)
     (ap (lineOf n (judgeOf (take 26 s)) ++_) (turns (drop 26 s) t k j (n + 1) (omega (arith, length-drop 26 s))))
 
+-- the lines of a row of whole frames do not depend on what follows
+pub lines-front : (m n : ℕ) (s t : List ℕ) → length s ≡ 26 * m → lines m n (s ++ t) ≡ lines m n s
+lines-front m n s t h =
+    let z : m + 0 ≡ m = omega arith in
+    ap (λ (k : ℕ). lines k n (s ++ t)) (sym z)
+    ∙ turns s t m 0 n h
+    ∙ ap (lines m n s ++_) (lines-none (n + m) t)
+    ∙ append-nil (lines m n s)
+
 -- ---- where it stops
 
 -- for any number of frames after which reading stops
@@ -40,10 +49,7 @@ stops-at : (m : ℕ) (s t : List ℕ) → length s ≡ 26 * m
 stops-at m s t h =
     let a : min (pieceCount (length (s ++ t))) m ≡ m = omega (arith, length-append s t) in
     let b : min (pieceCount (length s)) m ≡ m = omega arith in
-    let z : m + 0 ≡ m = omega arith in
-    let e : lines m 1 (s ++ t) ≡ lines m 1 s =
-    ap (λ (k : ℕ). lines k 1 (s ++ t)) (sym z) ∙ turns s t m 0 1 h ∙ ap (lines m 1 s ++_) (lines-none (1 + m) t) ∙ append-nil (lines m 1 s) in
-    rw (a, b, e)
+    rw (a, b, lines-front m 1 s t h)
 
 stops : (s t : List ℕ) → length s ≡ 26 * 999999 → listingOf (s ++ t) ≡ listingOf s
 unfolding listingOf

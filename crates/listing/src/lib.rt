@@ -81,7 +81,7 @@ fn put_line(out: &mut [u8], at: usize, number: u64, verdict: Verdict) -> usize
 }
 
 // How many pieces of 26 bytes are in n bytes, a short last piece counted.
-fn piece_count(n: usize) -> usize
+pub fn piece_count(n: usize) -> usize
     ensures { λ r. ⌜ r ≡ pieceCount n ⌝ }
 {
     if n % 26 == 0 {

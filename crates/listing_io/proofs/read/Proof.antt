@@ -5,9 +5,6 @@ use borrow.Author.Needs.{needs}
 use Rattle.listing_io.proofs.read.Statement.{statement}
 use Rattle.listing_io.proofs.read.Tie as tie
 
-wanted-requires : tie.Need-wanted-requires
-wanted-requires c κs = search needs
-
 slice-relend-prefix-read-full : tie.Need-slice-relend-prefix-read-full
 slice-relend-prefix-read-full c = search needs
 
@@ -21,15 +18,8 @@ same-length : tie.Need-same-length
 same-length c = search needs
 
 returns : tie.Need-returns
-returns c = omega (arith, length-take (c .before .before .before .before .wanted .result) (c .before .before .before .before .before .before .args .input .now))
+returns c = omega (arith, length-take (c .before .before .before .before .before .args .wanted) (c .before .before .before .before .before .args .input .now))
 
 pub read-spec : {M : Type 1} → statement M
 read-spec =
-    tie.close
-    (tie.spec
-    wanted-requires
-    slice-relend-prefix-read-full
-    slice-aggregate-read-full
-    read-full-requires
-    same-length
-    returns)
+    tie.close (tie.spec slice-relend-prefix-read-full slice-aggregate-read-full read-full-requires same-length returns)

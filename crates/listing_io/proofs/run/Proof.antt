@@ -1,55 +1,46 @@
--- `listing_io::run` is safe and ends. Assumes nothing.
-use mathlib.Core.Path.{_≡_}
-use Prim.Native.Nat.{_≤_, _-_}
+-- `listing_io::run` is safe and ends: a turn after which something is wanted has listed more frames. Assumes nothing.
+use mathlib.Core.Path.{_≡_, ap}
+use mathlib.Core.Logic.{⊎-elim}
+use Prim.Native.Nat.{_+_, _-_, _≤_, min}
+use native.Mathlib.Omega.{arith}
 use borrow.Author.Needs.{needs}
 use lib.ListN.{length}
+use Rattle.listing_turns.specs.declared.Turn.{Turn}
 use Rattle.listing_io.proofs.run.Statement.{statement}
 use Rattle.listing_io.proofs.run.Tie as tie
 
 abbrev Inv-loop : tie.InvT-loop
-Inv-loop input₀ out₀ n₀ input out n = (length input ≡ 65536) × (length out ≡ 80640) × (n ≤ 999999)
+Inv-loop input₀ out₀ turn₀ input out turn = (length input ≡ 65536) × (length out ≡ 80672) × (turn .wanted ≤ 65520)
 
 abbrev μ-loop : tie.MeasureT-loop
-μ-loop input₀ out₀ n₀ input out n = 999999 - n
+μ-loop input₀ out₀ turn₀ input out turn = 999999 - turn .listed + min (turn .wanted) 1
 
 large-buffer-requires : tie.Need-large-buffer-requires Inv-loop μ-loop
 large-buffer-requires c κs = search needs
 
-line-buffer-requires : tie.Need-line-buffer-requires Inv-loop μ-loop
-line-buffer-requires c κs = search needs
+text-buffer-requires : tie.Need-text-buffer-requires Inv-loop μ-loop
+text-buffer-requires c κs = search needs
+
+start-requires : tie.Need-start-requires Inv-loop μ-loop
+start-requires c κs = search needs
 
 loop-holds : tie.Need-loop-holds Inv-loop μ-loop
-loop-holds c = search needs
+loop-holds c = let e = ap (λ (t : Turn). t .wanted) (c .start .ensures) in (search needs, search needs, omega arith)
 
-slice-aggregate-turn : tie.Need-slice-aggregate-turn Inv-loop μ-loop
-slice-aggregate-turn c = search needs
+slice-aggregate-next : tie.Need-slice-aggregate-next Inv-loop μ-loop
+slice-aggregate-next c = search needs
 
-slice-aggregate-turn-2 : tie.Need-slice-aggregate-turn-2 Inv-loop μ-loop
-slice-aggregate-turn-2 c = search needs
+slice-aggregate-next-2 : tie.Need-slice-aggregate-next-2 Inv-loop μ-loop
+slice-aggregate-next-2 c = search needs
 
-turn-requires : tie.Need-turn-requires Inv-loop μ-loop
-turn-requires c κs = search needs
-
-add-n : tie.Need-add-n Inv-loop μ-loop
-add-n c = search needs
-
-cast-n : tie.Need-cast-n Inv-loop μ-loop
-cast-n c = search needs
-
-add-n-2 : tie.Need-add-n-2 Inv-loop μ-loop
-add-n-2 c = search needs
+next-requires : tie.Need-next-requires Inv-loop μ-loop
+next-requires c κs = search needs
 
 loop-less : tie.Need-loop-less Inv-loop μ-loop
-loop-less c = search needs
+loop-less c = ⊎-elim (λ z. omega arith) (λ w. omega arith) (c .before .before .next .ensures .more)
 
 loop-again : tie.Need-loop-again Inv-loop μ-loop
 loop-again c = search needs
-
-slice-aggregate-write-end : tie.Need-slice-aggregate-write-end Inv-loop μ-loop
-slice-aggregate-write-end c = search needs
-
-write-end-requires : tie.Need-write-end-requires Inv-loop μ-loop
-write-end-requires c κs = search needs
 
 returns : tie.Need-returns Inv-loop μ-loop
 returns c = search needs
@@ -61,16 +52,12 @@ run-spec =
     Inv-loop
     μ-loop
     large-buffer-requires
-    line-buffer-requires
+    text-buffer-requires
+    start-requires
     loop-holds
-    slice-aggregate-turn
-    slice-aggregate-turn-2
-    turn-requires
-    add-n
-    cast-n
-    add-n-2
+    slice-aggregate-next
+    slice-aggregate-next-2
+    next-requires
     loop-less
     loop-again
-    slice-aggregate-write-end
-    write-end-requires
     returns)

@@ -1,0 +1,4 @@
+pub mod Room
+pub mod Cases
+pub mod Ahead
+pub mod Promises
