@@ -9,7 +9,7 @@ use lib.Dec.{eqb}
 use lib.ListN.{length}
 use borrow.Author.Tests.{eqb-true, eqb-false}
 use Rattle.listing.specs.Lines.{pieceCount}
-use Rattle.listing_turns.specs.Turns.{fits, wantedAfter, taken, left, turnOf, Ahead}
+use Rattle.listing_turns.specs.Turns.{fits, wantedAfter, turnDone, turnRefused, turnOf, Ahead}
 use Rattle.listing_turns.specs.declared.Turn.{Turn}
 use Rattle.listing_turns.proofs.Room.{wanted-some, wanted-most, text-within}
 
@@ -28,7 +28,7 @@ pub ahead : (n : ℕ) (s : List ℕ) (m : ℕ) → Ahead n m (turnOf n s m)
 unfolding turnOf
 ahead n s m = go (fits n (pieceCount (length s)) m) refl
   where
-    go : (t : Bool) → fits n (pieceCount (length s)) m ≡ t → Ahead n m (cond t (taken n s) (left n))
+    go : (t : Bool) → fits n (pieceCount (length s)) m ≡ t → Ahead n m (cond t (turnDone n s) (turnRefused n))
     go true e =
         record {
           within = text-within n s m e;

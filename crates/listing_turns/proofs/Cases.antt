@@ -11,7 +11,7 @@ use borrow.Author.Tests.{le-leb}
 use Rattle.bits.proofs.Slices.{rest-lent}
 use Rattle.listing.specs.Lines.{pieceCount, endLine, listCount, listOf, endCount, endOf}
 use Rattle.listing.proofs.LineLengths.{length-lines, length-end}
-use Rattle.listing_turns.specs.Turns.{wantedAfter, linesAfter, turnText, fits, left, turnOf, bufferAfter}
+use Rattle.listing_turns.specs.Turns.{wantedAfter, linesAfter, turnText, fits, turnRefused, turnOf, bufferAfter}
 use Rattle.listing_turns.specs.declared.Turn.{Turn}
 use Rattle.listing_turns.proofs.Room.{fits-true, text-more, text-last}
 
@@ -19,9 +19,9 @@ use Rattle.listing_turns.proofs.Room.{fits-true, text-more, text-last}
 abbrev Answered : (n : ℕ) (s out : List ℕ) (t : Turn) (m : List ℕ) → Type 0
 Answered n s out t m = (t ≡ turnOf n s (length out)) × (m ≡ bufferAfter n s out)
 
-pub turn-left : (n c : ℕ) (s out : List ℕ) → c ≡ pieceCount (length s) → fits n c (length out) ≡ false → Answered n s out (left n) out
+pub turn-refused : (n c : ℕ) (s out : List ℕ) → c ≡ pieceCount (length s) → fits n c (length out) ≡ false → Answered n s out (turnRefused n) out
 unfolding turnOf bufferAfter
-turn-left n c s out e f = rw (← e, f) (refl, refl)
+turn-refused n c s out e f = rw (← e, f) (refl, refl)
 
 -- a text at the start of a buffer, and how long it is
 abbrev Stored : (x out : List ℕ) (j : ℕ) (m : List ℕ) → Type 0
@@ -70,12 +70,12 @@ end-stored n i k x out m v last (p, q) h a b d =
     (simp length-append (omega arith), e ∙ simp (drop-drop, length-append, append-assoc))
 
 -- nothing is wanted: the last line follows
-pub turn-last : (n c w i k : ℕ) (s out m v last : List ℕ) → c ≡ pieceCount (length s) → fits n c (length out) ≡ true
+pub turn-last : (n c a w i k : ℕ) (s out m v last : List ℕ) → c ≡ pieceCount (length s) → fits n c (length out) ≡ true
     → i ≡ listCount s (n + 1) (length out) → m ≡ listOf s (n + 1) out → w ≡ wantedAfter n (length s) → w ≡ 0
-    → k ≡ endCount (n + c) (length (take (length m - i) (drop i m))) → last ≡ endOf (n + c) (take (length m - i) (drop i m))
-    → v ≡ take i m ++ (last ++ drop (length m - i) (drop i m))
+    → k ≡ endCount a (length (take (length m - i) (drop i m))) → last ≡ endOf a (take (length m - i) (drop i m))
+    → a ≡ n + c → v ≡ take i m ++ (last ++ drop (length m - i) (drop i m))
     → Answered n s out (record { written = i + k; listed = n + c; wanted = 0 }) v
-turn-last n c w i k s out m v last e f a l q z x y d =
+turn-last n c a w i k s out m v last e f b l q z x y u d =
     let p = pieceCount (length s) in
     let g : fits n p (length out) ≡ true = rw (← e) f in
     let r = lines-stored n s out g in
@@ -83,7 +83,7 @@ turn-last n c w i k s out m v last e f a l q z x y d =
     let h = length-lines p (n + 1) s (omega arith) in
     rw e
     (answered n 0 (i + k) s out v (linesAfter n s ++ endLine (n + p)) g (sym z ∙ q) (text-last n s (sym q ∙ z))
-    (end-stored (n + p) i k (linesAfter n s) out m v last (a ∙ r .0, l ∙ r .1) (omega arith) (rw (← e) x) (rw (← e) y) d))
+    (end-stored (n + p) i k (linesAfter n s) out m v last (b ∙ r .0, l ∙ r .1) (omega arith) (rw (← e, ← u) x) (rw (← e, ← u) y) d))
 
 -- the last line is short
 pub end-small : (n m k : ℕ) → k ≡ endCount n m → n < 18446744073709551616 → k ≤ 32

@@ -1,17 +1,17 @@
 -- The promises hold. Assumes nothing.
 use mathlib.Core.Path.{_≡_, refl, sym, ap, ap₂, _∙_}
-use mathlib.Core.Logic.{_⊎_, inl, inr, ⊎-elim}
+use mathlib.Core.Logic.{⊎-elim}
 use mathlib.Core.Bool.{Bool, true, false, cond}
 use mathlib.Core.List.{List, [], _++_, append-assoc, append-nil}
 use Prim.Native.Nat.{ℕ, zero, suc, _+_, _-_, _*_, _<_, _≤_, min}
 use native.Mathlib.Omega.{arith}
-use lib.Dec.{eqb, ltb, leb}
+use lib.Dec.{eqb, leb}
 use lib.ListN.{length, take, drop, length-append, length-take, length-drop, take-append-drop}
 use lib.Seq.{take-all, take-at}
-use borrow.Author.Tests.{ltb-true, ltb-false, leb-true, leb-false, eqb-true, eqb-false, eq-eqb, ne-eqb}
+use borrow.Author.Tests.{leb-true, leb-false, eqb-true, eqb-false, eq-eqb, ne-eqb}
 use Rattle.listing.specs.Lines.{pieceCount, lines, endLine, listingOf}
 use Rattle.listing.proofs.Promises.{turns, lines-front}
-use Rattle.listing_turns.specs.Turns.{turnBytes, wantedAfter, linesAfter, turnText, fits, taken, left, turnOf, bufferAfter, start, pieceOf, turnAfter, programText}
+use Rattle.listing_turns.specs.Turns.{turnBytes, wantedAfter, turnText, fits, turnDone, turnRefused, turnOf, bufferAfter, pieceOf, programText}
 use Rattle.listing_turns.specs.Promises.{ListingTurns}
 use Rattle.listing_turns.specs.declared.Turn.{Turn}
 use Rattle.listing_turns.proofs.Room.{fits-met, fits-true, wanted-none, wanted-some, wanted-most, text-more, text-last, text-within}
@@ -29,7 +29,7 @@ record Next (k : ℕ) (t : Turn) (s out : List ℕ) : Type 0 where
   buffer : List ℕ
   size : length buffer ≡ length out
   text : programText (suc k) t s out
-      ≡ turnText (t .listed) (pieceOf t s) ++ programText k (taken (t .listed) (pieceOf t s)) (drop (t .wanted) s) buffer
+      ≡ turnText (t .listed) (pieceOf t s) ++ programText k (turnDone (t .listed) (pieceOf t s)) (drop (t .wanted) s) buffer
 
 program-next : (k : ℕ) (t : Turn) (s out : List ℕ) → (t .wanted ≡ 0 → ⊥)
     → fits (t .listed) (pieceCount (length (pieceOf t s))) (length out) ≡ true → Next k t s out
@@ -142,7 +142,7 @@ program-left (suc k) j n s out h e m = go (program-left k) (eqb w 0) refl
     go rest true q =
         let next = step k j n s out h m in
         let z = eqb-true w 0 q in
-        next .text ∙ ap₂ _++_ (last-turn n s z) (program-over k (taken n p) (drop (turnBytes n) s) (next .buffer) z) ∙ append-nil (leftText n s)
+        next .text ∙ ap₂ _++_ (last-turn n s z) (program-over k (turnDone n p) (drop (turnBytes n) s) (next .buffer) z) ∙ append-nil (leftText n s)
     go rest false q =
         let next = step k j n s out h m in
         let z = eqb-false w 0 q in
@@ -156,20 +156,23 @@ program-left (suc k) j n s out h e m = go (program-left k) (eqb w 0) refl
         ∙ rest i x r (next .buffer) (omega arith) (omega arith) (omega (arith, next .size)))
         ∙ other-turn n s (omega arith) z
 
-whole : (k : ℕ) (s out : List ℕ) → 397 ≤ k → 80672 ≤ length out → programText k start s out ≡ listingOf s
+from-start : (s : List ℕ) → leftText 0 s ≡ listingOf s
 unfolding listingOf
-whole k s out h m =
-    let z : 0 + leftCount 0 s ≡ min (pieceCount (length s)) 999999 = omega arith in
-    program-left k 0 0 s out (omega arith) (omega arith) m ∙ rw z
+from-start s = let z : 0 + leftCount 0 s ≡ min (pieceCount (length s)) 999999 = omega arith in rw z
 
 stops : (n : ℕ) (s : List ℕ) (m : ℕ) → n ≤ 999999 → 26 * turnOf n s m .listed + turnOf n s m .wanted ≤ 26 * 999999
 unfolding turnOf
 stops n s m h = go (fits n (pieceCount (length s)) m) refl
   where
     go : (t : Bool) → fits n (pieceCount (length s)) m ≡ t
-        → 26 * cond t (taken n s) (left n) .listed + cond t (taken n s) (left n) .wanted ≤ 26 * 999999
+        → 26 * cond t (turnDone n s) (turnRefused n) .listed + cond t (turnDone n s) (turnRefused n) .wanted ≤ 26 * 999999
     go true e = let f = fits-true n (pieceCount (length s)) m e in omega (arith, wanted-most n (length s))
     go false e = omega arith
 
 pub listing-turns : ListingTurns
-listing-turns = record { whole = whole; stops = stops; ahead = ahead }
+listing-turns =
+    record {
+      whole = λ k s out h m. program-left k 0 0 s out (omega arith) (omega arith) (omega arith) ∙ from-start s;
+      stops = stops;
+      ahead = ahead;
+    }

@@ -31,14 +31,14 @@ fits n c m = leb (n + c) 999999 && leb (32 * (c + 1)) m
 
 -- ---- what `list_piece` answers, after n frames, for s and a buffer of m bytes
 
-abbrev pub taken : ℕ → List ℕ → Turn
-taken n s = record { written = length (turnText n s); listed = n + pieceCount (length s); wanted = wantedAfter n (length s) }
+abbrev pub turnDone : ℕ → List ℕ → Turn
+turnDone n s = record { written = length (turnText n s); listed = n + pieceCount (length s); wanted = wantedAfter n (length s) }
 
-abbrev pub left : ℕ → Turn
-left n = record { written = 0; listed = n; wanted = 0 }
+abbrev pub turnRefused : ℕ → Turn
+turnRefused n = record { written = 0; listed = n; wanted = 0 }
 
 unfoldable pub turnOf : (n : ℕ) (s : List ℕ) (m : ℕ) → Turn
-turnOf n s m = cond (fits n (pieceCount (length s)) m) (taken n s) (left n)
+turnOf n s m = cond (fits n (pieceCount (length s)) m) (turnDone n s) (turnRefused n)
 
 -- and what it leaves in the buffer
 unfoldable pub bufferAfter : ℕ → (s out : List ℕ) → List ℕ

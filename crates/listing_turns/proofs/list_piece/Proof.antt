@@ -1,16 +1,13 @@
 -- `listing_turns::list_piece` meets its contract. Assumes nothing.
-use mathlib.Core.Path.{_≡_, refl, sym, _∙_}
-use mathlib.Core.Bool.{true}
-use Prim.Native.Nat.{_+_, _*_, _≤_}
+use mathlib.Core.Path.{refl, sym, _∙_}
+use Prim.Native.Nat.{_+_}
 use native.Mathlib.Omega.{arith}
 use lib.ListN.{length}
 use borrow.Author.Tests.{not-true, not-false}
 use borrow.Author.Needs.{needs}
-use Rattle.listing.specs.Lines.{pieceCount}
 use Rattle.listing.proofs.LineLengths.{list-within}
-use Rattle.listing_turns.specs.Turns.{fits}
 use Rattle.listing_turns.proofs.Room.{fits-true}
-use Rattle.listing_turns.proofs.Cases.{turn-left, turn-more, turn-last, end-small}
+use Rattle.listing_turns.proofs.Cases.{turn-refused, turn-more, turn-last, end-small}
 use Rattle.listing_turns.proofs.list_piece.Statement.{statement}
 use Rattle.listing_turns.proofs.list_piece.Tie as tie
 
@@ -23,7 +20,7 @@ fits-requires c κs = search needs
 returns : tie.Need-returns
 returns c =
     let known = c .before .before in
-    turn-left _ _ _ _ (known .piece-count .ensures) (sym (c .before .fits2 .ensures) ∙ not-true _ (c .if1 .taken))
+    turn-refused _ _ _ _ (known .piece-count .ensures) (sym (c .before .fits2 .ensures) ∙ not-true _ (c .if1 .taken))
 
 add-list : tie.Need-add-list
 add-list c = let f = fits-true _ _ _ (sym (c .before .fits2 .ensures) ∙ not-false _ (c .if1 .left)) in omega arith
@@ -74,8 +71,8 @@ returns-3 c =
     let none = ended .before .before in
     let listed = none .before .before .before .before in
     let tested = listed .before .before in
-    turn-last _ _ _ _ _ _ _ _ _ _ (tested .before .before .piece-count .ensures) (sym (tested .before .fits2 .ensures) ∙ not-false _ (tested .if1 .left))
-    (listed .list .ensures .0) (listed .list .ensures .1) (none .before .wanted-after .ensures) (none .if2 .left) (ended .end .ensures .0) (ended .end .ensures .1) refl
+    turn-last _ _ _ _ _ _ _ _ _ _ _ (tested .before .before .piece-count .ensures) (sym (tested .before .fits2 .ensures) ∙ not-false _ (tested .if1 .left))
+    (listed .list .ensures .0) (listed .list .ensures .1) (none .before .wanted-after .ensures) (none .if2 .left) (ended .end .ensures .0) (ended .end .ensures .1) (omega arith) refl
 
 pub list-piece-spec : {M : Type 1} → statement M
 list-piece-spec =
