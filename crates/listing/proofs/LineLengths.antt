@@ -40,20 +40,22 @@ length-lines zero n s h = omega arith
 length-lines (suc k) n s h =
     simp length-append (omega (arith, line-short n (take 26 s) (omega arith), length-lines k (n + 1) (drop 26 s) (omega arith)))
 
--- what `list` and `end` answer is at most the buffer's length
-count-within : (r m k : ℕ) → k ≤ r → cond (leb r m) k 0 ≤ m
-count-within r m k h = go (leb r m) refl
-  where
-    go : (t : Bool) → leb r m ≡ t → cond t k 0 ≤ m
-    go true e = omega (arith, leb-true r m e)
-    go false e = omega arith
-
-pub list-within : (s : List ℕ) (n m : ℕ) → n + length s < 18446744073709551616 → listCount s n m ≤ m
+-- what `list` answers is at most the buffer's length, and what `end` answers is at most 32
+pub list-within : (s : List ℕ) (n m j : ℕ) → j ≡ listCount s n m → n + length s < 18446744073709551616 → j ≤ m
 unfolding listCount
-list-within s n m h =
-    let k = pieceCount (length s) in
-    count-within (32 * k) m (length (lines k n s)) (length-lines k n s (omega arith))
+list-within s n m j e h = rw e (go (leb (32 * k) m) refl)
+  where
+    k : ℕ
+    k = pieceCount (length s)
 
-pub end-within : (n m : ℕ) → n < 18446744073709551616 → endCount n m ≤ m
+    go : (t : Bool) → leb (32 * k) m ≡ t → cond t (length (lines k n s)) 0 ≤ m
+    go true q = omega (arith, leb-true (32 * k) m q, length-lines k n s (omega arith))
+    go false q = omega arith
+
+pub end-within : (n m j : ℕ) → j ≡ endCount n m → n < 18446744073709551616 → j ≤ 32
 unfolding endCount
-end-within n m h = count-within 32 m (length (endLine n)) (length-end n h)
+end-within n m j e h = rw e (go (leb 32 m))
+  where
+    go : (t : Bool) → cond t (length (endLine n)) 0 ≤ 32
+    go true = length-end n h
+    go false = omega arith

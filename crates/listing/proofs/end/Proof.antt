@@ -12,7 +12,7 @@ use Rattle.listing.proofs.end.Tie as tie
 
 returns : tie.Need-returns
 unfolding endCount endOf
-returns c = let a = c .before .before .args in answered-none 32 (endLine (a .count)) (a .out .now) (c .if1 .taken)
+returns c = let a = c .before .before .args in answered-none 32 (endLine (a .count)) (a .out .now) (omega arith)
 
 put-byte-requires : tie.Need-put-byte-requires
 put-byte-requires c κs = search needs
@@ -46,7 +46,7 @@ returns-2 c =
     let letter-e = letter-n .before .before .before .before in
     let tested = letter-e .before .before in
     let a = tested .before .before .args in
-    answered-text 32 (endLine (a .count)) (a .out .now) _ _ (tested .if1 .left) (omega (arith, length-end (a .count) (omega arith)))
+    answered-text 32 (endLine (a .count)) (a .out .now) _ _ (omega arith) (omega (arith, length-end (a .count) (omega arith)))
     (put-then (101 ∷ []) _ (letter-e .put-byte .ensures)
     (put-then (110 ∷ []) _ (letter-n .put-byte2 .ensures)
     (put-then (100 ∷ []) _ (letter-d .put-byte3 .ensures)

@@ -16,7 +16,7 @@ same-length : tie.Need-same-length
 same-length c = search needs
 
 returns : tie.Need-returns
-returns c = rw (eq-eqb (c .before .before .before .before .before .before .before .before .args .verdict .number) 0 (c .before .before .before .before .before .if1 .taken)) (c .before .before .put-decimal .ensures)
+returns c = rw (eq-eqb (c .before .before .before .before .before .before .before .before .args .verdict .number) 0 (omega arith)) (c .before .before .put-decimal .ensures)
 
 put-byte-requires : tie.Need-put-byte-requires
 put-byte-requires c κs = search needs
@@ -25,7 +25,7 @@ same-length-2 : tie.Need-same-length-2
 same-length-2 c = search needs
 
 returns-2 : tie.Need-returns-2
-returns-2 c = rw (ne-eqb (c .before .before .before .before .before .before .before .args .verdict .number) 0 (c .before .before .before .before .if1 .left)) (c .before .before .put-byte .ensures)
+returns-2 c = rw (ne-eqb (c .before .before .before .before .before .before .before .args .verdict .number) 0 (λ e. omega arith)) (c .before .before .put-byte .ensures)
 
 pub put-places-spec : {M : Type 1} → statement M
 put-places-spec =
