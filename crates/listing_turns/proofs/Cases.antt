@@ -1,16 +1,15 @@
 -- The ways out of `list_piece`. Assumes nothing.
 use mathlib.Core.Path.{_≡_, refl, sym, ap, ap₂, _∙_}
-use mathlib.Core.Bool.{Bool, true, false, cond}
+use mathlib.Core.Bool.{true, false}
 use mathlib.Core.List.{List, _++_, append-assoc}
-use Prim.Native.Nat.{ℕ, _+_, _-_, _*_, _<_, _≤_}
+use Prim.Native.Nat.{ℕ, _+_, _-_, _*_, _≤_}
 use native.Mathlib.Omega.{arith}
-use lib.Dec.{leb}
 use lib.ListN.{length, take, drop, length-append, length-take, length-drop}
 use lib.Seq.{take-at, drop-at, drop-drop}
 use borrow.Author.Tests.{le-leb}
 use Rattle.bits.proofs.Slices.{rest-lent}
 use Rattle.listing.specs.Lines.{pieceCount, endLine, listCount, listOf, endCount, endOf}
-use Rattle.listing.proofs.LineLengths.{length-lines, length-end}
+use Rattle.listing.proofs.LineLengths.{length-lines}
 use Rattle.listing_turns.specs.Turns.{wantedAfter, linesAfter, turnText, fits, turnRefused, turnOf, bufferAfter}
 use Rattle.listing_turns.specs.declared.Turn.{Turn}
 use Rattle.listing_turns.proofs.Room.{fits-true, text-more, text-last}
@@ -84,12 +83,3 @@ turn-last n c a w i k s out m v last e f b l q z x y u d =
     rw e
     (answered n 0 (i + k) s out v (linesAfter n s ++ endLine (n + p)) g (sym z ∙ q) (text-last n s (sym q ∙ z))
     (end-stored (n + p) i k (linesAfter n s) out m v last (b ∙ r .0, l ∙ r .1) (omega arith) (rw (← e, ← u) x) (rw (← e, ← u) y) d))
-
--- the last line is short
-pub end-small : (n m k : ℕ) → k ≡ endCount n m → n < 18446744073709551616 → k ≤ 32
-unfolding endCount
-end-small n m k e h = rw e (go (leb 32 m))
-  where
-    go : (t : Bool) → cond t (length (endLine n)) 0 ≤ 32
-    go true = length-end n h
-    go false = omega arith

@@ -1,13 +1,11 @@
 -- `listing_turns::list_piece` meets its contract. Assumes nothing.
 use mathlib.Core.Path.{refl, sym, _∙_}
-use Prim.Native.Nat.{_+_}
 use native.Mathlib.Omega.{arith}
-use lib.ListN.{length}
 use borrow.Author.Tests.{not-true, not-false}
 use borrow.Author.Needs.{needs}
-use Rattle.listing.proofs.LineLengths.{list-within}
+use Rattle.listing.proofs.LineLengths.{list-within, end-within}
 use Rattle.listing_turns.proofs.Room.{fits-true}
-use Rattle.listing_turns.proofs.Cases.{turn-refused, turn-more, turn-last, end-small}
+use Rattle.listing_turns.proofs.Cases.{turn-refused, turn-more, turn-last}
 use Rattle.listing_turns.proofs.list_piece.Statement.{statement}
 use Rattle.listing_turns.proofs.list_piece.Tie as tie
 
@@ -48,10 +46,10 @@ returns-2 c =
     (listed .list .ensures .0) (listed .list .ensures .1) (c .before .wanted-after .ensures) (c .if2 .taken)
 
 sub-end : tie.Need-sub-end
-sub-end c = omega (arith, list-within (c .before .before .before .before .before .before .before .before .before .before .before .args .piece .now) (c .before .before .before .before .before .before .before .before .before .before .before .args .listed + 1) (length (c .before .before .before .before .before .before .before .before .before .before .before .args .out .now)) (omega arith))
+sub-end c = omega (arith, list-within _ _ _ _ (c .before .before .before .before .list .ensures .0) (omega arith))
 
 part-end-start : tie.Need-part-end-start
-part-end-start c = omega (arith, list-within (c .before .before .before .before .before .before .before .before .before .before .before .args .piece .now) (c .before .before .before .before .before .before .before .before .before .before .before .args .listed + 1) (length (c .before .before .before .before .before .before .before .before .before .before .before .args .out .now)) (omega arith))
+part-end-start c = omega (arith, list-within _ _ _ _ (c .before .before .before .before .list .ensures .0) (omega arith))
 
 part-end-end : tie.Need-part-end-end
 part-end-end c = search needs
@@ -60,7 +58,8 @@ end-requires : tie.Need-end-requires
 end-requires c κs = search needs
 
 add-t9 : tie.Need-add-t9
-add-t9 c = omega (arith, list-within (c .before .before .before .before .before .before .before .before .before .before .before .before .before .before .before .args .piece .now) (c .before .before .before .before .before .before .before .before .before .before .before .before .before .before .before .args .listed + 1) (length (c .before .before .before .before .before .before .before .before .before .before .before .before .before .before .before .args .out .now)) (omega arith), end-small _ _ _ (c .before .before .end .ensures .0) (omega arith))
+add-t9 c =
+    omega (arith, list-within _ _ _ _ (c .before .before .before .before .before .before .before .before .list .ensures .0) (omega arith), end-within _ _ _ (c .before .before .end .ensures .0) (omega arith))
 
 same-length-2 : tie.Need-same-length-2
 same-length-2 c = search needs
