@@ -3,7 +3,7 @@
 ghost use mathlib.Core.Path.{_≡_};
 ghost use Prim.Native.Nat.{_≤_};
 ghost use lib.ListN.{length};
-ghost use Rattle.listing_turns.specs.Turns.{Ahead};
+ghost use Rattle.listing_io.specs.Reading.{TurnMade};
 use libc::STDIN_FILENO;
 use libc::STDOUT_FILENO;
 use listing_turns::Turn;
@@ -26,7 +26,7 @@ fn read(wanted: usize, input: &mut [u8]) -> usize
 // One turn: reads what is wanted, lists it, and writes the text.
 fn next(before: Turn, input: &mut [u8], out: &mut [u8]) -> Turn
     requires { ⌜ before .wanted ≤ length (now input) ⌝ }
-    ensures { λ r. ⌜ Ahead (before .listed) (length (now (out .entry))) r ⌝ }
+    ensures { λ r. ⌜ TurnMade before (now (input .exit)) (now (out .entry)) (now (out .exit)) r ⌝ }
 {
     let got = read(before.wanted, input);
     let turn = listing_turns::list_piece(before.listed, &input[..got], out);

@@ -34,7 +34,10 @@ same-length-2 : tie.Need-same-length-2
 same-length-2 c = search needs
 
 returns : tie.Need-returns
-returns c = told-ahead _ _ _ (c .before .before .before .before .list-piece .ensures .0)
+returns c =
+    let listed = c .before .before .before .before in
+    let got = listed .before .before .before .before .before .read in
+    record { got = got .result; most = got .ensures; told = listed .list-piece .ensures .0; text = listed .list-piece .ensures .1 }
 
 pub next-spec : {M : Type 1} → statement M
 next-spec =

@@ -5,6 +5,7 @@ use Prim.Native.Nat.{_+_, _-_, _≤_, min}
 use native.Mathlib.Omega.{arith}
 use borrow.Author.Needs.{needs}
 use lib.ListN.{length}
+use Rattle.listing_turns.proofs.Ahead.{told-ahead}
 use Rattle.listing_turns.specs.declared.Turn.{Turn}
 use Rattle.listing_io.proofs.run.Statement.{statement}
 use Rattle.listing_io.proofs.run.Tie as tie
@@ -37,10 +38,12 @@ next-requires : tie.Need-next-requires Inv-loop μ-loop
 next-requires c κs = search needs
 
 loop-less : tie.Need-loop-less Inv-loop μ-loop
-loop-less c = ⊎-elim (λ z. omega arith) (λ w. omega arith) (c .before .before .next .ensures .more)
+loop-less c =
+    let ahead = told-ahead _ _ _ (c .before .before .next .ensures .told) in
+    ⊎-elim (λ z. omega arith) (λ w. omega arith) (ahead .more)
 
 loop-again : tie.Need-loop-again Inv-loop μ-loop
-loop-again c = search needs
+loop-again c = let ahead = told-ahead _ _ _ (c .before .before .next .ensures .told) in search needs
 
 returns : tie.Need-returns Inv-loop μ-loop
 returns c = search needs
