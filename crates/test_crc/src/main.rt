@@ -56,25 +56,30 @@ fn agree32(s: &[u8]) -> bool {
     true
 }
 
-// Bytes 4 to 183 of a header that is all zero but for the form, the validity of the streams, the fixed bit, the identifiers (i, 1) for
-// i from 1 to 15, and the ones of its extension.
+// The identifiers (i, 1) for i from 1 to 15.
+fn put_identifiers(h: &mut [u8; 180]) {
+    for i in 0..15u8 {
+        let k = i as usize * 4;
+        h[k + 6] = i + 1;
+        h[k + 8] = 1;
+    }
+}
+
+// The ones of the extension.
+fn put_extension(h: &mut [u8; 180]) {
+    for k in 95..180 {
+        h[k] = 0xFF;
+    }
+}
+
+// Bytes 4 to 183 of a header that is all zero but for the form, the validity of the streams, the fixed bit, the identifiers and the extension.
 fn model() -> [u8; 180] {
     let mut h = [0u8; 180];
     h[2] = 1;
     h[3] = 0xFF;
     h[4] = 0xFF;
-    let mut i: u8 = 0;
-    while i < 15 {
-        let k = i as usize * 4;
-        h[k + 6] = i + 1;
-        h[k + 8] = 1;
-        i += 1;
-    }
-    let mut k = 95;
-    while k < 180 {
-        h[k] = 0xFF;
-        k += 1;
-    }
+    put_identifiers(&mut h);
+    put_extension(&mut h);
     h
 }
 
