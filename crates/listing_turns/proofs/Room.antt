@@ -1,4 +1,4 @@
--- When a turn fits, and how long its text is. Assumes nothing.
+-- When a turn fits, what is wanted after it, and its text. Assumes nothing.
 use mathlib.Core.Path.{_≡_, refl}
 use mathlib.Core.Logic.{_⊎_, inl, inr}
 use mathlib.Core.Bool.{Bool, true, false, cond, and-eq-true-iff}

@@ -26,7 +26,7 @@ fn turn_bytes(listed: u32) -> usize
     65520
 }
 
-// How many bytes are to be read after a piece of len bytes, which gave so many frames: none where it is short, since the input has ended.
+// How many bytes are to be read after a piece of len bytes, with which `after` frames are listed: none where it is short, since the input has ended.
 fn wanted_after(listed: u32, len: usize, after: u32) -> usize
     requires { ⌜ after ≡ listed + pieceCount len ⌝ }
     ensures { λ r. ⌜ r ≡ wantedAfter listed len ⌝ }
@@ -61,8 +61,8 @@ pub fn start() -> Turn
     }
 }
 
-// One turn: the lines of a piece of the input, after so many frames, and the last line if nothing more is to be read. A piece that goes past frame 999,999,
-// or a buffer that has not 32 bytes for each line and 32 for the last, are left as they are: nothing is to be written or read.
+// One turn: the lines of a piece of the input, after so many frames, and the last line if nothing more is to be read, at the start of the buffer. If the piece
+// goes past frame 999,999, or the buffer has not 32 bytes for each line and 32 for the last, the buffer stays as it is, and nothing is to be written or read.
 pub fn list_piece(listed: u32, piece: &[u8], out: &mut [u8]) -> Turn
     ensures told { λ r. ⌜ r ≡ turnOf listed (now (piece .entry)) (length (now (out .entry))) ⌝ }
     ensures text { λ _. ⌜ now (out .exit) ≡ bufferAfter listed (now (piece .entry)) (now (out .entry)) ⌝ }
