@@ -1,13 +1,13 @@
 -- Places over plain numbers. What each function returns, and what it leaves in its buffer s. Assumes nothing.
 use mathlib.Core.Bool.{cond}
-use mathlib.Core.List.{List, [], _∷_}
+use mathlib.Core.List.{List}
 use Prim.Native.Nat.{ℕ}
 use lib.Dec.{eqb}
 use lib.ListN.{length}
 use lib.Ieee.{Float}
 use Rattle.place.specs.Desk.{conversionOf, conversionNumber, conversionFields}
 use Rattle.place.specs.declared.Conversion.{Conversion}
-use Rattle.report.specs.Report.{reportOf, reportNumber}
+use Rattle.report.specs.Report.{reportOf, reportNumber, reportDoubles}
 use Rattle.report.specs.declared.Reported.{Reported}
 use Rattle.report.specs.declared.Reported.the-variants.{Place, Cancellation, AreasOnly, Nothing, Refused}
 use Rattle.abi.specs.Status.{statusOf}
@@ -29,11 +29,7 @@ reportStatus v s =
 
 -- latitude, longitude and depth, of a place alone
 abbrev pub doublesOf : Reported → List Float → List Float
-doublesOf (Place n m d) s = n ∷ m ∷ d ∷ []
-doublesOf Cancellation s = s
-doublesOf AreasOnly s = s
-doublesOf Nothing s = s
-doublesOf (Refused n) s = s
+doublesOf a s = cond (eqb (reportCase a) 1) (reportDoubles a) s
 
 unfoldable pub reportPlace : (v : List ℕ) → List Float → List Float
 reportPlace v s = cond (eqb (length v) 18) (cond (eqb (length s) 3) (doublesOf (reportOf (recordFrom v)) s) s) s

@@ -1,6 +1,8 @@
 -- The promises hold. Assumes nothing.
 use mathlib.Core.Path.{_≡_, _∙_, refl, sym, ap, subst}
 use mathlib.Core.Bool.{Bool, true, false}
+use mathlib.Core.Logic.{_≢_}
+use mathlib.Core.List.{[], _∷_}
 use Prim.Native.Nat.{ℕ}
 use lib.Dec.{eqb}
 use borrow.Author.Tests.{eqb-true, eqb-false}
@@ -9,14 +11,14 @@ use Rattle.frame.specs.Write.{Legal, recordRefusal}
 use Rattle.frame.specs.declared.Body.{Body}
 use Rattle.frame.specs.declared.Body.the-variants.{AreaPage, PlacePage, CancelPage, NoInformation}
 use Rattle.frame.specs.declared.Record.{Record}
-use Rattle.place.specs.Degrees.{placeOf}
+use Rattle.place.specs.Degrees.{degreesOf, kilometresOf, placeOf}
 use Rattle.place.specs.Desk.{SameBits, conversionOf}
 use Rattle.place.specs.declared.Place.{Place}
 use Rattle.place.specs.declared.Fields.{Fields}
 use Rattle.place.specs.declared.Conversion.{Conversion}
 use Rattle.place.specs.declared.Conversion.the-variants.{Converted}
 use Rattle.place.proofs.Promises.{degrees-laws}
-use Rattle.report.specs.Report.{reportedBy, reportOf, reportNumber}
+use Rattle.report.specs.Report.{reportedBy, reportOf, reportNumber, reportDoubles}
 use Rattle.report.specs.Promises.{placeFields, withPlace, reportsPlace, Reports}
 use Rattle.report.proofs.Cases.{legal, refused}
 use Rattle.report.proofs.Places.{allowed, with-body, with-legal, with-own, Reporter, reporter}
@@ -38,6 +40,26 @@ numbered r = go (eqb (recordRefusal r) 0) refl
 
 by : (b : Body) (r : Record) → Legal r → recordBody r ≡ b → reportOf r ≡ reportedBy b r
 by b r l e = legal r l ∙ ap (λ (x : Body). reportedBy x r) e
+
+place-told : (r : Record) → Legal r → recordBody r ≡ PlacePage
+    → reportDoubles (reportOf r) ≡ degreesOf (r .south) (r .latitude) ∷ degreesOf (r .west) (r .longitude) ∷ kilometresOf (r .depth) ∷ []
+place-told r l e = ap reportDoubles (by PlacePage r l e)
+
+refused-told : (r : Record) → recordRefusal r ≢ 0 → reportDoubles (reportOf r) ≡ []
+refused-told r n = ap reportDoubles (refused r n)
+
+body-told : (b : Body) (r : Record) → b ≢ PlacePage → reportDoubles (reportedBy b r) ≡ []
+body-told AreaPage r n = refl
+body-told PlacePage r n = absurd (n refl)
+body-told CancelPage r n = refl
+body-told NoInformation r n = refl
+
+others-told : (r : Record) → recordBody r ≢ PlacePage → reportDoubles (reportOf r) ≡ []
+others-told r n = go (eqb (recordRefusal r) 0) refl
+  where
+    go : (t : Bool) → eqb (recordRefusal r) 0 ≡ t → reportDoubles (reportOf r) ≡ []
+    go true e = ap reportDoubles (legal r (eqb-true (recordRefusal r) 0 e)) ∙ body-told (recordBody r) r n
+    go false e = refused-told r (eqb-false (recordRefusal r) 0 e)
 
 desk-again : (r : Record) (p : Place) → reportOf r ≡ reportsPlace p → conversionOf p ≡ Converted (placeFields r)
 desk-again r p e =
@@ -65,6 +87,9 @@ reports =
       areas-only = by AreaPage;
       cancellation = by CancelPage;
       place = by PlacePage;
+      place-told = place-told;
+      others-told = others-told;
+      refused-told = refused-told;
       desk-again = desk-again;
       report-again = report-again;
       desk-reported = desk-reported;

@@ -1,19 +1,21 @@
 -- What this crate promises, in document 01's words. The record has one value, proved in proofs/Promises.antt. Assumes nothing.
 use mathlib.Core.Path.{_≡_}
+use mathlib.Core.Logic.{_≢_}
+use mathlib.Core.List.{[], _∷_}
 use Prim.Native.Nat.{ℕ}
 use lib.Ieee.{Float}
 use Rattle.frame.specs.Fields.{recordBody}
 use Rattle.frame.specs.Write.{Legal, recordRefusal}
 use Rattle.frame.specs.declared.Body.the-variants.{AreaPage, PlacePage, CancelPage, NoInformation}
 use Rattle.frame.specs.declared.Record.{Record}
-use Rattle.place.specs.Degrees.{placeOf}
+use Rattle.place.specs.Degrees.{degreesOf, kilometresOf, placeOf}
 use Rattle.place.specs.Desk.{SameBits, conversionOf}
 use Rattle.place.specs.declared.Place.{Place}
 use Rattle.place.specs.declared.Fields.{Fields}
 use Rattle.place.specs.declared.Conversion.the-variants.{Converted}
 use Rattle.report.specs.declared.Reported.{Reported}
 use Rattle.report.specs.declared.Reported.the-variants as reported
-use Rattle.report.specs.Report.{reportOf, reportNumber}
+use Rattle.report.specs.Report.{reportOf, reportNumber, reportDoubles}
 
 -- the five fields of a record's place
 abbrev pub placeFields : Record → Fields
@@ -55,6 +57,11 @@ pub record Reports : Type 0 where
   pub areas-only : (r : Record) → Legal r → recordBody r ≡ AreaPage → reportOf r ≡ reported.AreasOnly
   pub cancellation : (r : Record) → Legal r → recordBody r ≡ CancelPage → reportOf r ≡ reported.Cancellation
   pub place : (r : Record) → Legal r → recordBody r ≡ PlacePage → reportOf r ≡ reportsPlace (placeOf (placeFields r))
+  -- a place is told by its three doubles, each the image of its field value; no other report tells any
+  pub place-told : (r : Record) → Legal r → recordBody r ≡ PlacePage
+      → reportDoubles (reportOf r) ≡ degreesOf (r .south) (r .latitude) ∷ degreesOf (r .west) (r .longitude) ∷ kilometresOf (r .depth) ∷ []
+  pub others-told : (r : Record) → recordBody r ≢ PlacePage → reportDoubles (reportOf r) ≡ []
+  pub refused-told : (r : Record) → recordRefusal r ≢ 0 → reportDoubles (reportOf r) ≡ []
   -- a reported place, given to the desk, becomes the record's own fields
   pub desk-again : (r : Record) (p : Place) → reportOf r ≡ reportsPlace p → conversionOf p ≡ Converted (placeFields r)
   -- so that report, desk and report again give the same place

@@ -1,7 +1,9 @@
 -- What a record reports (document 01, "The place in degrees"). Assumes nothing.
 use mathlib.Core.Bool.{cond}
+use mathlib.Core.List.{List, [], _∷_}
 use Prim.Native.Nat.{ℕ}
 use lib.Dec.{eqb}
+use lib.Ieee.{Float}
 use Rattle.frame.specs.Fields.{recordBody}
 use Rattle.frame.specs.Write.{recordRefusal}
 use Rattle.frame.specs.declared.Body.{Body}
@@ -22,10 +24,17 @@ reportedBy NoInformation r = Nothing
 unfoldable pub reportOf : Record → Reported
 reportOf r = cond (eqb (recordRefusal r) 0) (reportedBy (recordBody r) r) (Refused (recordRefusal r))
 
--- document 01's number of a report
+-- document 01's number and values of a report: 0 with the latitude, longitude and depth of a place, and none of the others; or the refusal's number
 abbrev pub reportNumber : Reported → ℕ
 reportNumber (Place n m d) = 0
 reportNumber Cancellation = 0
 reportNumber AreasOnly = 0
 reportNumber Nothing = 0
 reportNumber (Refused n) = n
+
+abbrev pub reportDoubles : Reported → List Float
+reportDoubles (Place n m d) = n ∷ m ∷ d ∷ []
+reportDoubles Cancellation = []
+reportDoubles AreasOnly = []
+reportDoubles Nothing = []
+reportDoubles (Refused n) = []
