@@ -7,7 +7,8 @@ static void print_areas(const uint64_t *record)
 {
     printf("areas warned:");
     for (uint64_t area = 0; area < GVZ_AREAS; area++) {
-        if (GVZ_WARNED(gvz_warned(record, GVZ_FRAME_VALUES, area))) {
+        uint32_t status = gvz_warned(record, GVZ_FRAME_VALUES, area);
+        if (GVZ_REFUSAL(status) == GVZ_REFUSAL_NONE && GVZ_WARNED(status)) {
             printf(" %u", (unsigned)area);
         }
     }
@@ -27,7 +28,12 @@ int main(void)
     }
     printf("identification %u, update %u, %u places repaired\n", (unsigned)record[GVZ_RECORD_IDENTIFICATION],
         (unsigned)record[GVZ_RECORD_UPDATE], (unsigned)GVZ_REPAIRED(status));
-    switch (GVZ_REPORT_CASE(gvz_report(record, GVZ_FRAME_VALUES, place, GVZ_PLACE_VALUES))) {
+    status = gvz_report(record, GVZ_FRAME_VALUES, place, GVZ_PLACE_VALUES);
+    if (GVZ_REFUSAL(status) != GVZ_REFUSAL_NONE) {
+        printf("refused %u\n", (unsigned)GVZ_REFUSAL(status));
+        return 1;
+    }
+    switch (GVZ_REPORT_CASE(status)) {
     case GVZ_REPORT_PLACE:
         printf("place: latitude %.1f, longitude %.1f, %.0f km deep\n", place[GVZ_PLACE_LATITUDE], place[GVZ_PLACE_LONGITUDE],
             place[GVZ_PLACE_DEPTH]);
@@ -38,8 +44,9 @@ int main(void)
     case GVZ_REPORT_AREAS_ONLY:
         print_areas(record);
         break;
-    default:
-        printf("no information\n");
+    case GVZ_REPORT_NOTHING:
+        printf("no information from broadcaster %u\n", (unsigned)record[GVZ_RECORD_BROADCASTER]);
+        break;
     }
     return 0;
 }

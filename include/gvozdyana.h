@@ -1,14 +1,16 @@
 /* Gvozdyana: the exported functions of the archive libgvozdyana.a.
  *
- * Each function takes any numbers and any bytes, answers and stops. A slice is a pointer and a length, the number
- * of its elements. The pointer is good for as many elements as the length says; beside the length 0 it may be NULL.
- * What a function writes overlaps nothing else that it is handed.
+ * Each function takes any numbers and any bytes, answers and stops. A slice is a pointer and a length, the number of
+ * its elements. The caller must see to it that the pointer is good for as many elements as the length says and aligned
+ * as their type asks (beside the length 0 it may be NULL), and that what a function writes overlaps nothing else that it
+ * is handed. No function keeps anything between calls, so that they may be called from several threads.
  *
  * Most functions return a status: the refusal's number in the low 8 bits, GVZ_REFUSAL(status), 0 where nothing was
  * refused, and above them what else the function tells. gvz_capture_source, gvz_capture_numbers and gvz_crc32
  * refuse nothing and return something else; what is said beside each function holds.
  *
- * A refusal tells its number alone, and leaves every buffer as it was. Refusal 1 is also given for a record, word,
+ * A refusal tells its number alone, but for gvz_follow, and leaves every buffer as it was: look at GVZ_REFUSAL first,
+ * since what stands above it means something only where that is 0. Refusal 1 is also given for a record, word,
  * place or field buffer of another length than the one named here, before anything else is looked at. Frames and
  * headers of another length get their 1 where document 01 tests it.
  */
@@ -80,7 +82,8 @@ enum gvz_refusal {
 /* The repaired places, 0 to 8, of a status of gvz_repair, gvz_repair_register and gvz_frame_read. */
 #define GVZ_REPAIRED(status) ((status) >> 8)
 
-/* Whether the area is warned, 1 or 0, of a status of gvz_warned. */
+/* Whether the area is warned, 1 or 0, of a status of gvz_warned whose GVZ_REFUSAL is 0. At a refusal it is 0 too, which
+ * says nothing of the area. */
 #define GVZ_WARNED(status) ((status) >> 8)
 
 /* What a frame announces, record[GVZ_RECORD_IDENTIFICATION]. 4, 5 and 6 are undefined, and refused. */
@@ -101,6 +104,7 @@ enum gvz_record_index {
     GVZ_RECORD_PATTERN = 1,
     /* 3 bits: an enum gvz_identification */
     GVZ_RECORD_IDENTIFICATION = 2,
+    /* Update, time and page: identification 0 to 3 alone; 0 for 7, although its frame holds ones there. */
     /* 2 bits: goes 0, 1, 2, 3 and back to 0, so that the greater one is not the newer one (gvz_follow) */
     GVZ_RECORD_UPDATE = 3,
     /* 31 bits: the current time, a plain number that is carried as it stands */
@@ -113,7 +117,7 @@ enum gvz_record_index {
     /* The rest but the last: page 1 of identification 0 to 3 alone. */
     /* 1 bit: how many places are being sent, 0 for one and 1 for two */
     GVZ_RECORD_TOTAL = 7,
-    /* 1 bit: which of them this is */
+    /* 1 bit: which of them this is, as the broadcaster numbers them */
     GVZ_RECORD_ITEM = 8,
     /* 9 bits: the warning number */
     GVZ_RECORD_NUMBER = 9,
@@ -162,7 +166,8 @@ uint32_t gvz_warned(const uint64_t *record, size_t record_len, uint64_t area);
 #define GVZ_PLACE_VALUES 3
 #define GVZ_DESK_VALUES 5
 
-/* The case of a status of gvz_report, an enum gvz_report_case. */
+/* The case of a status of gvz_report whose GVZ_REFUSAL is 0, an enum gvz_report_case. At a refusal it is 0 too, which
+ * does not mean GVZ_REPORT_NOTHING. */
 #define GVZ_REPORT_CASE(status) ((status) >> 8)
 
 enum gvz_report_case {
@@ -204,7 +209,8 @@ uint32_t gvz_desk(double latitude, double longitude, double depth, uint64_t *fie
 #define GVZ_STATE_REAL(u) (4u + (u))
 #define GVZ_STATE_TEST(u) (8u + (u))
 
-/* The event, an enum gvz_event, and the new state's number of a status of gvz_follow. */
+/* The event, an enum gvz_event, and the new state's number of a status of gvz_follow, at a refusal too. Hand
+ * GVZ_STATE(status), and not the status, to the next call. */
 #define GVZ_EVENT(status) ((status) >> 8 & 255u)
 #define GVZ_STATE(status) ((status) >> 16)
 
@@ -258,7 +264,7 @@ enum gvz_header_index {
     GVZ_HEADER_PACKET = 0,       /* 32 bits: the packet header, byte 0 highest, which is 0x47 */
     GVZ_HEADER_FRAME_SYNC = 1,   /* 16 bits: the multiplex frame's sync */
     GVZ_HEADER_CHANGE = 2,       /* 3 bits: the change number */
-    GVZ_HEADER_METHOD = 3,       /* 1 bit */
+    GVZ_HEADER_METHOD = 3,       /* 1 bit: the slot arrangement, carried as it stands */
     GVZ_HEADER_FORM = 4,         /* 4 bits: the multiplex form, 0x1 */
     GVZ_HEADER_VALID = 5,        /* 15 values of 1 bit: streams 1 to 15, 1 for valid */
     GVZ_HEADER_IDENTIFIERS = 20, /* 30 values of 16 bits: stream id and original network id of streams 1 to 15, in turn */
@@ -268,6 +274,9 @@ enum gvz_header_index {
     GVZ_HEADER_SLOTS = 67,       /* 52 values of 4 bits: the stream of slots 2 to 53, 0 for an empty one */
     GVZ_HEADER_AC = 119          /* 25 values of 8 bits, 1 of 4: the AC frame's 204 bits; all ones when none is sent */
 };
+
+/* The 26 bytes of the AC frame in a header's record are its 25 values as they stand, and the last one times 16, so that
+ * the four filler bits are 0. */
 
 /* Reads a header of GVZ_CABLE_BYTES into a record of GVZ_CABLE_VALUES. Returns a status: refuses 1, 12, 13, 14, 15;
  * tells nothing. */

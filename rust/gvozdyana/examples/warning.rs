@@ -1,4 +1,5 @@
-//! A frame that arrived with one bit hit is read, its warned areas are listed, and it is reported, followed, and laid into a header.
+//! A frame that arrived with one bit hit is read, its warned areas are listed, and it is reported,
+//! followed, and laid into a header.
 use gvozdyana::follower::{Event, State, Update};
 use gvozdyana::frame::{self, Identification, Record, Warning};
 use gvozdyana::header::{self, Header};

@@ -32,7 +32,8 @@ pub struct Header {
     pub emergency: u64,
     /// 4 bits each: the stream of slots 2 to 53, 0 for an empty one.
     pub slots: [u64; 52],
-    /// 25 values of 8 bits, 1 of 4: the AC frame's 204 bits; all ones when none is sent.
+    /// 25 values of 8 bits, 1 of 4: the AC frame's 204 bits; all ones when none is sent. The frame's 26 bytes are the first 25 as they stand, and the
+    /// last one times 16.
     pub ac: [u64; 26],
 }
 
