@@ -2,7 +2,7 @@
 use mathlib.Core.Path.{_≡_, refl, sym, ap, _∙_}
 use mathlib.Core.Bool.{Bool, true, false, true≢false, cond}
 use mathlib.Core.Logic.{_≢_, _⊎_, inl, inr}
-use mathlib.Core.List.{List, _∷_}
+use mathlib.Core.List.{List, [], _∷_, _++_}
 use Prim.Native.Nat.{ℕ, _+_, _%_, _<_}
 use native.Mathlib.Omega.{arith}
 use lib.Dec.{eqb}
@@ -27,7 +27,7 @@ use Rattle.follower.specs.declared.Follower.{Follower}
 use Rattle.follower.specs.declared.Follower.the-variants.{Quiet, Active}
 use Rattle.follower.specs.declared.Step.{Step}
 use Rattle.follower.specs.Follow.{kindOf, sameKind, changeOf, warningEvent, silenceEvent, stepOf, eventNumber}
-use Rattle.follower.specs.Promises.{Warns, Silences, stateAfter, eventsOf, Following, Some, Worked}
+use Rattle.follower.specs.Promises.{Warns, Silences, SomeSilence, stateAfter, Following, Some, Worked}
 
 -- ---- a step, by what the frame is
 
@@ -125,34 +125,17 @@ forgets s t f r d e = go (accepted f r d e)
     go {k} {u} (inl w) = held s f k u w ∙ sym (held t f k u w)
     go (inr w) = ap (λ (x : Step). x .next) (step-silenced s f w) ∙ sym (ap (λ (x : Step). x .next) (step-silenced t f w))
 
-heals : (s t : Follower) (f : List ℕ) (gs : List (List ℕ)) (r : Record) (d : Damage) → readOf f ≡ Accepted r d
-    → (stateAfter s (f ∷ gs) ≡ stateAfter t (f ∷ gs)) × (eventsOf (stepOf s f .next) gs ≡ eventsOf (stepOf t f .next) gs)
+heals : (s t : Follower) (fs : List (List ℕ)) (f : List ℕ) (gs : List (List ℕ)) (r : Record) (d : Damage) → readOf f ≡ Accepted r d
+    → stateAfter s (fs ++ f ∷ gs) ≡ stateAfter t (fs ++ f ∷ gs)
 unfolding stateAfter
-heals s t f gs r d e = let same = forgets s t f r d e in (ap (λ (x : Follower). stateAfter x gs) same, ap (λ (x : Follower). eventsOf x gs) same)
+heals s t [] f gs r d e = ap (λ (x : Follower). stateAfter x gs) (forgets s t f r d e)
+heals s t (g ∷ fs) f gs r d e = heals (stepOf s g .next) (stepOf t g .next) fs f gs r d e
 
-pub following : Following
-following =
-    record {
-      begins = event-warned Quiet;
-      other-begins = other-begins;
-      same = same;
-      changed = changed;
-      skipped = skipped;
-      held = held;
-      quiet = step-silenced Quiet;
-      ended = λ f k v. step-silenced (Active k v) f;
-      refused = step-refused;
-      accepted = accepted;
-      numbered = numbered;
-      forgets = forgets;
-      heals = heals;
-    }
+-- ---- there are such frames
 
--- ---- worked example 9
-
--- a warning for all areas
-warning : (identification update : ℕ) → Record
-warning i u =
+-- identification 0 to 3: a warning for all areas; 7, with update 0: no information
+announcing : (identification update : ℕ) → Record
+announcing i u =
     record {
       reference = 0;
       pattern = 0;
@@ -174,18 +157,47 @@ warning i u =
       broadcaster = 0;
     }
 
-some-by : (i : ℕ) (k : Kind) (u : ℕ) → Legal (warning i u) → classOf i ≡ class.Warning → kindOf i ≡ k → Some k u
-unfolding warning
+some-by : (i : ℕ) (k : Kind) (u : ℕ) → Legal (announcing i u) → classOf i ≡ class.Warning → kindOf i ≡ k → Some k u
+unfolding announcing
 some-by i k u legal c e =
     record {
-      frame = frameOf (warning i u);
-      warns = record { message = warning i u; damage = record { repaired = 0 }; read = demand2 .comes-back (warning i u) legal; class = c; kind = e; update = refl };
+      frame = frameOf (announcing i u);
+      warns = record { message = announcing i u; damage = record { repaired = 0 }; read = demand2 .comes-back (announcing i u) legal; class = c; kind = e; update = refl };
     }
 
 some : (k : Kind) (u : ℕ) → u < 4 → Some k u
-unfolding warning recordRefusal firstRefusal classOf fieldWidths kindOf
+unfolding announcing recordRefusal firstRefusal classOf fieldWidths kindOf
 some Real u h = some-by 0 Real u (rw (lt-ltb u 4 h)) refl refl
 some Test u h = some-by 2 Test u (rw (lt-ltb u 4 h)) refl refl
+
+silence-some : SomeSilence
+unfolding announcing recordRefusal firstRefusal classOf fieldWidths
+silence-some =
+    record {
+      frame = frameOf (announcing 7 0);
+      silences = record { message = announcing 7 0; damage = record { repaired = 0 }; read = demand2 .comes-back (announcing 7 0) refl; class = refl };
+    }
+
+pub following : Following
+following =
+    record {
+      begins = event-warned Quiet;
+      other-begins = other-begins;
+      same = same;
+      changed = changed;
+      skipped = skipped;
+      held = held;
+      quiet = step-silenced Quiet;
+      ended = λ f k v. step-silenced (Active k v) f;
+      silence-some = silence-some;
+      refused = step-refused;
+      accepted = accepted;
+      numbered = numbered;
+      forgets = forgets;
+      heals = heals;
+    }
+
+-- ---- worked example 9
 
 -- two warnings one after the other
 twice : (s : Follower) (f g : List ℕ) (k : Kind) (v u : ℕ) → Warns f k v → Warns g k u → stepOf (stepOf s f .next) g .event ≡ changeOf v u

@@ -2,7 +2,7 @@
 use mathlib.Core.Path.{_≡_}
 use mathlib.Core.Bool.{false}
 use mathlib.Core.Logic.{_≢_, _⊎_}
-use mathlib.Core.List.{List, [], _∷_}
+use mathlib.Core.List.{List, [], _∷_, _++_}
 use Prim.Native.Nat.{ℕ, _+_, _%_, _<_}
 use Rattle.frame.specs.Identification.{classOf}
 use Rattle.frame.specs.Read.{readOf, readingNumber}
@@ -11,7 +11,6 @@ use Rattle.frame.specs.declared.Record.{Record}
 use Rattle.frame.specs.declared.Damage.{Damage}
 use Rattle.frame.specs.declared.Reading.the-variants.{Accepted, Refused}
 use Rattle.follower.specs.declared.Kind.{Kind}
-use Rattle.follower.specs.declared.Event.{Event}
 use Rattle.follower.specs.declared.Event.the-variants as event
 use Rattle.follower.specs.declared.Follower.{Follower}
 use Rattle.follower.specs.declared.Follower.the-variants.{Quiet, Active}
@@ -33,14 +32,15 @@ pub record Silences (f : List ℕ) : Type 0 where
   pub read : readOf f ≡ Accepted message damage
   pub class : classOf (message .identification) ≡ class.Silent
 
--- the state after frames, and their events
+-- some frame says that there is no information
+pub record SomeSilence : Type 0 where
+  pub frame : List ℕ
+  pub silences : Silences frame
+
+-- the state after frames
 unfoldable pub stateAfter : Follower → List (List ℕ) → Follower
 stateAfter s [] = s
 stateAfter s (f ∷ fs) = stateAfter (stepOf s f .next) fs
-
-unfoldable pub eventsOf : Follower → List (List ℕ) → List Event
-eventsOf s [] = []
-eventsOf s (f ∷ fs) = stepOf s f .event ∷ eventsOf (stepOf s f .next) fs
 
 pub record Following : Type 0 where
   -- a warning from quiet, or of the other kind: "begins"
@@ -55,6 +55,8 @@ pub record Following : Type 0 where
   -- no information: from quiet "quiet", else "ended", and the state is quiet
   pub quiet : (f : List ℕ) → Silences f → stepOf Quiet f ≡ record { next = Quiet; event = event.Quiet }
   pub ended : (f : List ℕ) (k : Kind) (v : ℕ) → Silences f → stepOf (Active k v) f ≡ record { next = Quiet; event = event.Ended }
+  -- there is such a frame
+  pub silence-some : SomeSilence
   -- a refused frame gives its number and the old state
   pub refused : (s : Follower) (f : List ℕ) (n : ℕ) → readOf f ≡ Refused n → stepOf s f ≡ record { next = s; event = event.Refused n }
   -- every accepted frame is a warning or says that there is no information
@@ -63,9 +65,9 @@ pub record Following : Type 0 where
   pub numbered : (s : Follower) (f : List ℕ) → eventNumber (stepOf s f .event) ≡ readingNumber (readOf f)
   -- after an accepted frame the next state does not depend on the old one
   pub forgets : (s t : Follower) (f : List ℕ) (r : Record) (d : Damage) → readOf f ≡ Accepted r d → stepOf s f .next ≡ stepOf t f .next
-  -- so a restart heals with the first accepted frame
-  pub heals : (s t : Follower) (f : List ℕ) (gs : List (List ℕ)) (r : Record) (d : Damage) → readOf f ≡ Accepted r d
-      → (stateAfter s (f ∷ gs) ≡ stateAfter t (f ∷ gs)) × (eventsOf (stepOf s f .next) gs ≡ eventsOf (stepOf t f .next) gs)
+  -- so a restart is healed by the first accepted frame, whatever came before it
+  pub heals : (s t : Follower) (fs : List (List ℕ)) (f : List ℕ) (gs : List (List ℕ)) (r : Record) (d : Damage) → readOf f ≡ Accepted r d
+      → stateAfter s (fs ++ f ∷ gs) ≡ stateAfter t (fs ++ f ∷ gs)
 
 -- some frame is a warning of kind k with the update number u
 pub record Some (k : Kind) (u : ℕ) : Type 0 where
