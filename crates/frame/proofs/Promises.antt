@@ -6,13 +6,14 @@ use mathlib.Core.List.{List, [], _++_, append-assoc}
 use Prim.Native.Nat.{ℕ, _+_, _≤_, _<_}
 use native.Mathlib.Omega.{arith}
 use lib.Dec.{eqb}
-use lib.ListN.{length, take, drop, getD, length-drop}
-use lib.Seq.{take-all}
+use lib.ListN.{length, take, drop, getD, length-append, length-drop}
+use lib.Seq.{take-all, take-at, drop-at, length-take-le}
 use borrow.Author.Tests.{eq-eqb, ne-eqb, eqb-true, eqb-false}
 use Rattle.bits.specs.Bits.{odd, bitsOf, bits, bytes, Bytes}
 use Rattle.bits.specs.Field.{fieldAt}
-use Rattle.bits.proofs.Bits.{value-take-lt, bits-inj, bytes-Bytes}
+use Rattle.bits.proofs.Bits.{value-take-lt, length-bytes, bits-bytes, bits-inj, bytes-Bytes}
 use Rattle.gf2.specs.Polynomial.{zeros, add}
+use Rattle.gf2.proofs.Sum.{length-add}
 use Rattle.dsc.specs.Code.{CodeWord, weight, dist, parityOf}
 use Rattle.dsc.specs.Repair.{protected, wordBytes, repairedTo, repairOf}
 use Rattle.dsc.specs.declared.Answer.{Answer}
@@ -25,7 +26,7 @@ use Rattle.frame.specs.Fields.{fields, recordBody}
 use Rattle.frame.specs.Read.{identificationIn, bodyIn, valuesIn, recordIn, frameRefusal, placesIn, judgeOf, readOf, readingNumber, readingPlaces, readingFields, cleanOf}
 use Rattle.frame.specs.Area.{warnedIn}
 use Rattle.frame.specs.Write.{Legal, messageBits, recordRefusal, frameOf, writeNumber, writeOf}
-use Rattle.frame.specs.Promises.{SameUnprotected, HitFrame, Mended, Told, Demand2, AreasOnAir}
+use Rattle.frame.specs.Promises.{SameUnprotected, HitFrame, hitFrame, Mended, Told, Demand2, AreasOnAir}
 use Rattle.frame.specs.declared.Record.{Record}
 use Rattle.frame.specs.declared.Damage.{Damage}
 use Rattle.frame.specs.declared.Reading.{Reading}
@@ -64,6 +65,31 @@ hit-comes-back : (r : Record) (e : List Bool) (f : List ℕ) → Legal r → Hit
 hit-comes-back r e f l h =
     read-record r f (weight e) l (h .size) (h .outside)
     (demand3 .gives-sent-word f (wordOf r) e (h .size) (record-word r) (h .places) (h .few) (h .word ∙ ap (add e) (parts-frame r .word)))
+
+hit-some : (r : Record) (e : List Bool) → length e ≡ 187 → weight e ≤ 8 → HitFrame r e (hitFrame r e)
+unfolding hitFrame protected
+hit-some r e n k =
+    let g = bits (frameOf r) in
+    let f = hitFrame r e in
+    let x = take 17 g in
+    let w = add e (protected (frameOf r)) in
+    let z = drop 204 g in
+    let lg : length g ≡ 208 = frame-bits (frameOf r) (length-frame r) in
+    let lx : length x ≡ 17 = length-take-le 17 g (omega arith) in
+    let lw : length w ≡ 187 = length-add e (protected (frameOf r)) ∙ length-protected (frameOf r) (length-frame r) in
+    let b : bits f ≡ x ++ (w ++ z) =
+    bits-bytes 26 (x ++ (w ++ z)) (length-append x (w ++ z) ∙ omega (arith, length-append w z, length-drop 204 g)) in
+    record {
+      size = length-bytes 26 (x ++ (w ++ z));
+      outside =
+          record {
+            before = ap (take 17) b ∙ take-at x (w ++ z) 17 lx;
+            after = ap (drop 204) (b ∙ sym (append-assoc x w z)) ∙ drop-at (x ++ w) z 204 (length-append x w ∙ omega arith);
+          };
+      places = n;
+      few = k;
+      word = ap (λ (l : List Bool). take 187 (drop 17 l)) b ∙ ap (take 187) (drop-at x (w ++ z) 17 lx) ∙ take-at w z 187 lw;
+    }
 
 -- a record's own frame needs no repair
 pub repair-own : (r : Record) → repairOf (frameOf r) ≡ repairedTo (wordOf r) 0
@@ -265,6 +291,7 @@ demand2 =
       hit-comes-back = hit-comes-back;
       told = λ r l. told-as _ _ (comes-back r l);
       hit-told = λ r e f l h. told-as _ _ (hit-comes-back r e f l h);
+      hit-some = hit-some;
       number-told = number-told;
       refused-told = λ f n. told-as _ _ (refused-read f n);
       written-again = written-again;
