@@ -32,7 +32,7 @@ pub record Silences (f : List ℕ) : Type 0 where
   pub read : readOf f ≡ Accepted message damage
   pub class : classOf (message .identification) ≡ class.Silent
 
--- some frame says that there is no information
+-- a frame that says so
 pub record SomeSilence : Type 0 where
   pub frame : List ℕ
   pub silences : Silences frame
@@ -55,7 +55,7 @@ pub record Following : Type 0 where
   -- no information: from quiet "quiet", else "ended", and the state is quiet
   pub quiet : (f : List ℕ) → Silences f → stepOf Quiet f ≡ record { next = Quiet; event = event.Quiet }
   pub ended : (f : List ℕ) (k : Kind) (v : ℕ) → Silences f → stepOf (Active k v) f ≡ record { next = Quiet; event = event.Ended }
-  -- there is such a frame
+  -- some frame says that there is no information
   pub silence-some : SomeSilence
   -- a refused frame gives its number and the old state
   pub refused : (s : Follower) (f : List ℕ) (n : ℕ) → readOf f ≡ Refused n → stepOf s f ≡ record { next = s; event = event.Refused n }
