@@ -21,7 +21,7 @@ abbrev μ-loop : tie.MeasureT-loop
 returns : tie.Need-returns Inv-loop μ-loop
 returns c =
     let a = c .before .before .before .args in
-    sym (fitb-length (now (a .ws)) (now (a .vs)) (c .if1 .taken))
+    sym (fitb-length (now (a .ws)) (now (a .vs)) (λ e. omega (arith, e)))
 
 loop-holds : tie.Need-loop-holds Inv-loop μ-loop
 loop-holds c = (omega arith, refl)
