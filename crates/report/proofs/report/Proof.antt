@@ -1,5 +1,6 @@
 -- `report::report` meets its contract. Assumes nothing.
 use mathlib.Core.Path.{_≡_, _∙_, sym, ap, ap₂}
+use native.Mathlib.Omega.{arith}
 use borrow.Author.Needs.{needs}
 use Rattle.report.proofs.Cases.{report-refused, report-legal}
 use Rattle.report.proofs.report.Statement.{statement}
@@ -9,7 +10,7 @@ record-refusal-requires : tie.Need-record-refusal-requires
 record-refusal-requires c κs = search needs
 
 returns : tie.Need-returns
-returns c = report-refused _ _ (c .before .record-refusal .ensures) (c .if1 .taken)
+returns c = report-refused _ _ (c .before .record-refusal .ensures) (λ e. omega (arith, e))
 
 class-of-requires : tie.Need-class-of-requires
 class-of-requires c κs = search needs
@@ -22,7 +23,7 @@ report-by-requires c κs = search needs
 
 returns-2 : tie.Need-returns-2
 returns-2 c =
-    report-legal _ _ _ _ (c .before .before .before .before .record-refusal .ensures) (c .before .before .before .if1 .left) (c .before .before .class-of .ensures) (c .before .body-of .ensures)
+    report-legal _ _ _ _ (c .before .before .before .before .record-refusal .ensures) (omega arith) (c .before .before .class-of .ensures) (c .before .body-of .ensures)
     (c .report-by .ensures)
 
 pub report-spec : {M : Type 1} → statement M
