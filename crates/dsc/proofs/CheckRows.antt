@@ -194,7 +194,7 @@ multiple-even (false ∷ m) s hs h =
     ∙ multiple-even m s hs (omega arith)
 
 pub word-even : (c : List Bool) → CodeWord c → (s : ℕ) → s < 273 → syndrome c s ≡ false
-word-even c k s hs = ap (λ w. syndrome w s) (k .multiple) ∙ multiple-even (k .multiplier) s hs (omega (arith, k .bits))
+word-even c k s hs = ap (λ w. syndrome w s) (k .multiple) ∙ multiple-even (k .multiplier) s hs (omega (arith, k .size))
 
 -- ---- the rows through place p that hold place n: all 17 where n is p, and one otherwise
 

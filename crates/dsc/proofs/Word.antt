@@ -25,10 +25,10 @@ zeros-all (false ∷ w) e = ap (false ∷_) (zeros-all w e)
 
 module _ (c : List Bool) (k : CodeWord c) where
   pub length-word : length c ≡ 187
-  length-word = ap length (k .multiple) ∙ length-mul generatorLow (k .multiplier) ∙ ap₂ _+_ (k .bits) length-low
+  length-word = ap length (k .multiple) ∙ length-mul generatorLow (k .multiplier) ∙ ap₂ _+_ (k .size) length-low
 
   pub word-remainder : remainder generatorLow 105 c ≡ zeros 82
-  word-remainder = ap₂ (remainder generatorLow) (sym (k .bits)) (k .multiple) ∙ remainder-mul generatorLow (k .multiplier) ∙ ap zeros length-low
+  word-remainder = ap₂ (remainder generatorLow) (sym (k .size)) (k .multiple) ∙ remainder-mul generatorLow (k .multiplier) ∙ ap zeros length-low
 
   pub word-tested : isCodeWord c ≡ true
   unfolding isCodeWord
@@ -42,7 +42,7 @@ module _ (w : List Bool) (h : length w ≡ 187) where
   divided-word e =
       record {
         multiplier = quotient generatorLow 105 w;
-        bits = length-quotient generatorLow 105 w long;
+        size = length-quotient generatorLow 105 w long;
         multiple = mul-quotient generatorLow 105 w long (e ∙ ap zeros (sym length-low));
       }
 

@@ -21,7 +21,7 @@ generatorLow = poly 82 powers
 -- a code word: a multiple of the generator, of degree at most 186
 pub record CodeWord (w : List Bool) : Type 0 where
   pub multiplier : List Bool
-  pub bits : length multiplier ≡ 105
+  pub size : length multiplier ≡ 105
   pub multiple : w ≡ mul generatorLow multiplier
 
 -- ---- counting

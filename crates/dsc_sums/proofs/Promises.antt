@@ -26,8 +26,8 @@ module _ (t : List ℕ) (k : CheckTable t) where
   shifts : firstDifferences t ≡ differences
   shifts = ap (map (λ q. (273 - q) % 273)) first-row ∙ back
 
-  moved-on : (s : ℕ) → s < 273 → rowAt t s ≡ map (λ q. (q + s) % 273) (rowAt t 0)
-  moved-on s h = table-row t k s h ∙ row-moved s h ∙ ap (map (λ q. (q + s) % 273)) (sym first-row)
+  by-first-row : (s : ℕ) → s < 273 → rowAt t s ≡ map (λ q. (q + s) % 273) (rowAt t 0)
+  by-first-row s h = table-row t k s h ∙ row-moved s h ∙ ap (map (λ q. (q + s) % 273)) (sym first-row)
 
   module _ (w : List Bool) where
     sums : length w ≡ 187 → (s : ℕ) → s < 273 → sumOver (coefficient w) (rowAt t s) ≡ product w s ⊕ product w (s + 273)
@@ -40,4 +40,4 @@ module _ (t : List ℕ) (k : CheckTable t) where
         ∙ over-rows p h (syndrome w)
 
 pub shifts-of-table : ShiftsOfTable
-shifts-of-table = record { shifts = shifts; moved-on = moved-on; sums = sums; counts = counts }
+shifts-of-table = record { shifts = shifts; by-first-row = by-first-row; sums = sums; counts = counts }

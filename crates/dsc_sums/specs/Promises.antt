@@ -20,7 +20,7 @@ pub record ShiftsOfTable : Type 0 where
   -- the shifts of the product (`product::limb0` to `limb6`) and of the majority (`errors::majority`) are the first row's differences
   pub shifts : (t : List ℕ) → CheckTable t → firstDifferences t ≡ differences
   -- that row gives every other: row s is the first one moved on by s
-  pub moved-on : (t : List ℕ) → CheckTable t → (s : ℕ) → s < 273 → rowAt t s ≡ map (λ q. (q + s) % 273) (rowAt t 0)
+  pub by-first-row : (t : List ℕ) → CheckTable t → (s : ℕ) → s < 273 → rowAt t s ≡ map (λ q. (q + s) % 273) (rowAt t 0)
   -- the sum on row s of the table is the coefficient of x^s in the product, where what is past x^272 comes round
   pub sums : (t : List ℕ) → CheckTable t → (w : List Bool) → length w ≡ 187 → (s : ℕ) → s < 273
       → sumOver (coefficient w) (rowAt t s) ≡ product w s ⊕ product w (s + 273)

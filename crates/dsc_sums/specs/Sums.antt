@@ -55,7 +55,7 @@ movedOn ws i p = bitAt ws (i + p)
 pub record MovedMajority (ws : List ℕ) (x : ℕ) : Type 0 where
   pub each : (i : ℕ) → i < 64 → lane x i ≡ leb 9 (count (movedOn ws i) differences)
 
--- the word e has 1 at each place, and only there, of which nine or more rows fail in the word that has these sums
+-- the word `errors` has 1 at each place, and only there, of which nine or more rows fail in the word that has these sums
 pub record ErrorsOf (a b c d e : ℕ) (errors : List Bool) : Type 0 where
   pub each : (w : List Bool) → AllSums w a b c d e → (p : ℕ) → p < 187 → coefficient errors p ≡ leb 9 (failures w p)
 
