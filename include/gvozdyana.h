@@ -3,7 +3,8 @@
  * Each function takes any numbers and any bytes, answers and stops. A slice is a pointer and a length, the number of
  * its elements. The caller must see to it that the pointer is good for as many elements as the length says and aligned
  * as their type asks (beside the length 0 it may be NULL), and that what a function writes overlaps nothing else that it
- * is handed. No function keeps anything between calls, so that they may be called from several threads.
+ * is handed. No function keeps anything between calls: several threads may call them at once, on buffers
+ * that none of the others writes.
  *
  * Most functions return a status: the refusal's number in the low 8 bits, GVZ_REFUSAL(status), 0 where nothing was
  * refused, and above them what else the function tells. gvz_capture_source, gvz_capture_numbers and gvz_crc32
@@ -117,7 +118,7 @@ enum gvz_record_index {
     /* The rest but the last: page 1 of identification 0 to 3 alone. */
     /* 1 bit: how many places are being sent, 0 for one and 1 for two */
     GVZ_RECORD_TOTAL = 7,
-    /* 1 bit: which of them this is, as the broadcaster numbers them */
+    /* 1 bit: tells the places that are being sent apart; the notice gives its values no order */
     GVZ_RECORD_ITEM = 8,
     /* 9 bits: the warning number */
     GVZ_RECORD_NUMBER = 9,

@@ -3,6 +3,7 @@ use mathlib.Core.Path.{_≡_, refl, sym, ap, _∙_}
 use mathlib.Core.Bool.{Bool, true, false, true≢false, cond}
 use mathlib.Core.Logic.{_≢_, _⊎_, inl, inr}
 use mathlib.Core.List.{List, [], _∷_, _++_}
+use lib.ListN.{length, drop}
 use Prim.Native.Nat.{ℕ, _+_, _%_, _<_}
 use native.Mathlib.Omega.{arith}
 use lib.Dec.{eqb}
@@ -27,7 +28,7 @@ use Rattle.follower.specs.declared.Follower.{Follower}
 use Rattle.follower.specs.declared.Follower.the-variants.{Quiet, Active}
 use Rattle.follower.specs.declared.Step.{Step}
 use Rattle.follower.specs.Follow.{kindOf, sameKind, changeOf, warningEvent, silenceEvent, stepOf, eventNumber}
-use Rattle.follower.specs.Promises.{Warns, Silences, SomeSilence, stateAfter, Following, Some, Worked}
+use Rattle.follower.specs.Promises.{Warns, Silences, SomeSilence, stateAfter, eventsOf, Following, Some, Worked}
 
 -- ---- a step, by what the frame is
 
@@ -131,6 +132,12 @@ unfolding stateAfter
 heals s t [] f gs r d e = ap (λ (x : Follower). stateAfter x gs) (forgets s t f r d e)
 heals s t (g ∷ fs) f gs r d e = heals (stepOf s g .next) (stepOf t g .next) fs f gs r d e
 
+heals-events : (s t : Follower) (fs : List (List ℕ)) (f : List ℕ) (gs : List (List ℕ)) (r : Record) (d : Damage) → readOf f ≡ Accepted r d
+    → drop (length (fs ++ f ∷ [])) (eventsOf s (fs ++ f ∷ gs)) ≡ drop (length (fs ++ f ∷ [])) (eventsOf t (fs ++ f ∷ gs))
+unfolding eventsOf
+heals-events s t [] f gs r d e = ap (λ (x : Follower). eventsOf x gs) (forgets s t f r d e)
+heals-events s t (g ∷ fs) f gs r d e = heals-events (stepOf s g .next) (stepOf t g .next) fs f gs r d e
+
 -- ---- there are such frames
 
 -- identification 0 to 3: a warning for all areas; 7, with update 0: no information
@@ -195,6 +202,7 @@ following =
       numbered = numbered;
       forgets = forgets;
       heals = heals;
+      heals-events = heals-events;
     }
 
 -- ---- worked example 9

@@ -4,6 +4,7 @@ use mathlib.Core.Bool.{false}
 use mathlib.Core.Logic.{_≢_, _⊎_}
 use mathlib.Core.List.{List, [], _∷_, _++_}
 use Prim.Native.Nat.{ℕ, _+_, _%_, _<_}
+use lib.ListN.{length, drop}
 use Rattle.frame.specs.Identification.{classOf}
 use Rattle.frame.specs.Read.{readOf, readingNumber}
 use Rattle.frame.specs.declared.Class.the-variants as class
@@ -11,6 +12,7 @@ use Rattle.frame.specs.declared.Record.{Record}
 use Rattle.frame.specs.declared.Damage.{Damage}
 use Rattle.frame.specs.declared.Reading.the-variants.{Accepted, Refused}
 use Rattle.follower.specs.declared.Kind.{Kind}
+use Rattle.follower.specs.declared.Event.{Event}
 use Rattle.follower.specs.declared.Event.the-variants as event
 use Rattle.follower.specs.declared.Follower.{Follower}
 use Rattle.follower.specs.declared.Follower.the-variants.{Quiet, Active}
@@ -37,10 +39,14 @@ pub record SomeSilence : Type 0 where
   pub frame : List ℕ
   pub silences : Silences frame
 
--- the state after frames
+-- the state after frames, and their events
 unfoldable pub stateAfter : Follower → List (List ℕ) → Follower
 stateAfter s [] = s
 stateAfter s (f ∷ fs) = stateAfter (stepOf s f .next) fs
+
+unfoldable pub eventsOf : Follower → List (List ℕ) → List Event
+eventsOf s [] = []
+eventsOf s (f ∷ fs) = stepOf s f .event ∷ eventsOf (stepOf s f .next) fs
 
 pub record Following : Type 0 where
   -- a warning from quiet, or of the other kind: "begins"
@@ -68,6 +74,9 @@ pub record Following : Type 0 where
   -- so a restart is healed by the first accepted frame, whatever came before it
   pub heals : (s t : Follower) (fs : List (List ℕ)) (f : List ℕ) (gs : List (List ℕ)) (r : Record) (d : Damage) → readOf f ≡ Accepted r d
       → stateAfter s (fs ++ f ∷ gs) ≡ stateAfter t (fs ++ f ∷ gs)
+  -- and every event after that frame is the same too
+  pub heals-events : (s t : Follower) (fs : List (List ℕ)) (f : List ℕ) (gs : List (List ℕ)) (r : Record) (d : Damage) → readOf f ≡ Accepted r d
+      → drop (length (fs ++ f ∷ [])) (eventsOf s (fs ++ f ∷ gs)) ≡ drop (length (fs ++ f ∷ [])) (eventsOf t (fs ++ f ∷ gs))
 
 -- some frame is a warning of kind k with the update number u
 pub record Some (k : Kind) (u : ℕ) : Type 0 where

@@ -48,7 +48,7 @@ record! {
     areas, "56 bits: area 0 highest, and 0 MEANS WARNED. It means something only on page 0 of identification 0 to 3; elsewhere it is 0 and nobody is \
         warned. Ask [`Record::warned`], which looks at all of that.";
     total, "1 bit, as all from here to `occurred` of page 1 alone: how many places are being sent, 0 for one and 1 for two.";
-    item, "1 bit: which of them this is.";
+    item, "1 bit: tells the places that are being sent apart; the notice gives its values no order.";
     number, "9 bits: the warning number.";
     kind, "1 bit: 0 for a place, 1 for a cancellation, which leaves the six after it 0.";
     south, "1 bit: 0 north, 1 south.";
