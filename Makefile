@@ -8,7 +8,7 @@ archive := target/staticlib/libgvozdyana.a
 
 .PHONY: archive install uninstall
 
-# What is proved already is not proved again: some seconds then, some four minutes from nothing on two cores.
+# What is proved already is not proved again: 20 seconds then, some five minutes from nothing on two cores.
 archive:
 	@mkdir -p target/log
 	@echo "proving and building $(archive); the prover's output is in target/log/make.log"
