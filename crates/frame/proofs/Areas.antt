@@ -9,12 +9,13 @@ use lib.Seq.{getD-append-add, getD-take, getD-drop}
 use borrow.Author.Tests.{eq-eqb, le-leb}
 use Rattle.bits.specs.Bits.{odd, bitsOf, bits}
 use Rattle.bits.specs.Layout.{pack}
-use Rattle.bits.specs.Segment.{widths}
+use Rattle.bits.specs.Segment.{widths, withFixed, packSegments}
 use Rattle.bits.proofs.Bits.{length-bitsOf, getD-bitsOf}
 use Rattle.frame.specs.Area.{warnedIn}
-use Rattle.frame.specs.Body.{layout, bodyValues}
+use Rattle.frame.specs.Entry.{segmentsOf, indicesOf}
+use Rattle.frame.specs.Body.{row, layout, indices}
 use Rattle.frame.specs.Identification.{classOf}
-use Rattle.frame.specs.Fields.{recordBody}
+use Rattle.frame.specs.Fields.{gather, bodyValues, recordBody}
 use Rattle.frame.specs.Read.{detailsIn}
 use Rattle.frame.specs.Write.{frameOf}
 use Rattle.frame.specs.declared.Body.{Body}
@@ -27,13 +28,13 @@ after : (w v k : ℕ) (l : List Bool) → getD (bitsOf w v ++ l) (w + k) false �
 after w v k l = ap (λ (n : ℕ). getD (bitsOf w v ++ l) (n + k) false) (sym (length-bitsOf w v)) ∙ getD-append-add (bitsOf w v) l k false
 
 -- bit 32 + k of the details
-in-details : (r : Record) (k : ℕ) → k < 56 → getD (pack (widths (layout AreaPage)) (bodyValues AreaPage r)) (32 + k) false ≡ odd (r .areas / 2 ^ (55 - k))
-unfolding layout widths pack bodyValues
+in-details : (r : Record) (k : ℕ) → k < 56 → getD (packSegments (layout AreaPage) (bodyValues AreaPage r)) (32 + k) false ≡ odd (r .areas / 2 ^ (55 - k))
+unfolding row segmentsOf indicesOf layout indices gather bodyValues widths withFixed pack
 in-details r k h =
-    let details = bitsOf 31 (r .time) ++ (bitsOf 1 0 ++ (bitsOf 56 (r .areas) ++ [])) in
+    let details = bitsOf 31 (r .time) ++ (bitsOf 1 (r .page) ++ (bitsOf 56 (r .areas) ++ [])) in
     ap (λ (n : ℕ). getD details n false) (omega arith)
-    ∙ after 31 (r .time) (1 + k) (bitsOf 1 0 ++ (bitsOf 56 (r .areas) ++ []))
-    ∙ after 1 0 k (bitsOf 56 (r .areas) ++ [])
+    ∙ after 31 (r .time) (1 + k) (bitsOf 1 (r .page) ++ (bitsOf 56 (r .areas) ++ []))
+    ∙ after 1 (r .page) k (bitsOf 56 (r .areas) ++ [])
     ∙ List·getD-append (bitsOf 56 (r .areas)) [] false k (omega (arith, length-bitsOf 56 (r .areas)))
     ∙ getD-bitsOf 56 (r .areas) k h
     ∙ ap (λ (n : ℕ). odd (r .areas / 2 ^ n)) (omega arith)
@@ -51,7 +52,7 @@ module _ (r : Record) (warning : r .identification ≤ 3) (page : r .page ≡ 0)
       ∙ sym (getD-drop 24 b (32 + k) false)
       ∙ sym (getD-take 88 (drop 24 b) (32 + k) false (omega arith))
       ∙ ap (λ (l : List Bool). getD l (32 + k) false) details
-      ∙ ap (λ (y : Body). getD (pack (widths (layout y)) (bodyValues y r)) (32 + k) false) body
+      ∙ ap (λ (y : Body). getD (packSegments (layout y) (bodyValues y r)) (32 + k) false) body
       ∙ in-details r k h
 
   pub warned-on-air : warnedIn r k ≡ not (getD (bits (frameOf r)) (56 + k) false)

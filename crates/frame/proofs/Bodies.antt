@@ -1,29 +1,31 @@
 -- Laws of the bodies: what a legal record puts into its body, and the record that stands in a body's values. Assumes nothing.
 use mathlib.Core.Path.{_≡_, refl, sym, ap, ap₂, _∙_, subst}
-use mathlib.Core.Bool.{Bool, true, false, cond}
+use mathlib.Core.Bool.{Bool, true, false, cond, and-eq-true-iff, _&&_}
 use mathlib.Core.Logic.{_≢_}
 use mathlib.Core.List.{List, [], _∷_}
-use Prim.Native.Nat.{ℕ, zero, suc, _^_, _<_}
+use Prim.Native.Nat.{ℕ, zero, suc, _-_, _^_, _<_}
 use native.Mathlib.Omega.{arith}
 use lib.Dec.{eqb}
-use lib.ListN.{length, getD, take, drop}
+use lib.ListN.{length, getD, take, drop, replicate}
 use lib.Seq.{drop-drop}
-use borrow.Author.Tests.{eqb-true, eqb-false, not-false}
+use borrow.Author.Tests.{eqb-true, eqb-false, eq-eqb, ne-eqb, not-false}
 use Rattle.bits.specs.Bits.{value}
-use Rattle.bits.specs.Layout.{pack, unpack, sum, Fit, fitb}
-use Rattle.bits.specs.Segment.{widths, freeWidths, fixedHold, free, withFixed}
+use Rattle.bits.specs.Layout.{unpack, sum, Fit, fitb}
+use Rattle.bits.specs.Segment.{widths, freeWidths, free, withFixed, packSegments, unpackSegments}
 use Rattle.bits.proofs.Layouts.{unpack-pack, length-fit, fitb-fit, fit-fitb}
-use Rattle.bits.proofs.Segment.{length-widths, length-free, withFixed-free}
+use Rattle.bits.proofs.Segment.{fit-withFixed}
 use Rattle.bits.proofs.Refusal.{refusal-none, none-refusal}
 use Rattle.frame.specs.Identification.{classOf, updateOf, isUndefined}
-use Rattle.frame.specs.Body.{bodyOf, layout, bodyValues}
-use Rattle.frame.specs.Fields.{fields, fieldWidths, recordBody, tooWide, overLimit, recordOf}
+use Rattle.frame.specs.Entry.{Entry, held, ones, segmentsOf, indicesOf}
+use Rattle.frame.specs.Body.{bodyOf, row, layout, indices, ownUpdate}
+use Rattle.frame.specs.Fields.{fieldCount, fields, recordFrom, gather, scatter, beforeDetails, inFields, fieldWidths, bodyValues, recordBody, tooWide, overLimit, recordOf}
 use Rattle.frame.specs.Write.{recordRefusal, Legal}
 use Rattle.frame.specs.declared.Class.{Class}
 use Rattle.frame.specs.declared.Class.the-variants.{Warning, Silent, Undefined}
 use Rattle.frame.specs.declared.Body.{Body}
 use Rattle.frame.specs.declared.Body.the-variants.{AreaPage, PlacePage, CancelPage, NoInformation}
 use Rattle.frame.specs.declared.Record.{Record}
+use Rattle.frame.proofs.Indices.{length-gather, length-scatter, absent, apart, scatter-other, scatter-shared, gather-scatter, fit-at, fit-gather, fit-scatter, Agree, next, agree-scatter, agree-fit, agree-none}
 
 -- ---- which body it is
 
@@ -71,124 +73,82 @@ unfolding recordRefusal refusals
 sound-legal r s =
     none-refusal (refusals r) (s .known, (rw (fit-fitb (fieldWidths (recordBody r)) (fields r) (s .fit)), (s .limits, tt)))
 
--- ---- what a record puts into its body
+-- ---- the tables
 
--- one value of those that fit
-pub fit-at : (ws vs : List ℕ) → Fit ws vs → (j : ℕ) → getD vs j 0 < 2 ^ getD ws j 0
-fit-at [] [] f j = omega arith
-fit-at [] (v ∷ vs) f j = absurd f
-fit-at (w ∷ ws) [] f j = absurd f
-fit-at (w ∷ ws) (v ∷ vs) f zero = f .0
-fit-at (w ∷ ws) (v ∷ vs) f (suc j) = fit-at ws vs (f .1) j
+-- as many indices as fields
+indices-fields : (l : List Entry) → length (freeWidths (segmentsOf l)) ≡ length (indicesOf l)
+unfolding segmentsOf indicesOf freeWidths
+indices-fields [] = refl
+indices-fields (held k w ∷ l) = ap suc (indices-fields l)
+indices-fields (ones w ∷ l) = indices-fields l
 
-pub body-fit : (b : Body) (r : Record) → Fit (fieldWidths b) (fields r) → Fit (widths (layout b)) (bodyValues b r)
-unfolding fieldWidths layout bodyValues widths
-body-fit AreaPage r f = let h = fit-at (fieldWidths AreaPage) (fields r) f in (h 4, (omega arith, (h 6, tt)))
-body-fit PlacePage r f =
-    let h = fit-at (fieldWidths PlacePage) (fields r) f in
-    (h 4, (omega arith, (h 7, (h 8, (h 9, (omega arith, (h 11, (h 12, (h 13, (h 14, (h 15, (h 16, (omega arith, tt)))))))))))))
-body-fit CancelPage r f =
-    let h = fit-at (fieldWidths CancelPage) (fields r) f in
-    (h 4, (omega arith, (h 7, (h 8, (h 9, (omega arith, (omega arith, (omega arith, tt))))))))
-body-fit NoInformation r f = let h = fit-at (fieldWidths NoInformation) (fields r) f in (omega arith, (h 17, (omega arith, tt)))
+pub length-free : (b : Body) → length (freeWidths (layout b)) ≡ length (indices b)
+unfolding layout indices
+length-free b = indices-fields (row b)
 
-pub body-fixed : (b : Body) (r : Record) → fixedHold (layout b) (bodyValues b r) ≡ true
-unfolding layout bodyValues fixedHold
-body-fixed AreaPage r = refl
-body-fixed PlacePage r = refl
-body-fixed CancelPage r = refl
-body-fixed NoInformation r = refl
+-- what is to be seen of a row: it has 88 bits, and its indices lie in the record, after the fields that stand before the details, no two of them one
+rightRow : List Entry → Bool
+rightRow l = eqb (sum (widths (segmentsOf l))) 88 && apart fieldCount (0 ∷ 1 ∷ 2 ∷ 3 ∷ indicesOf l)
 
--- values that fit: 0 where the width is
-masked : List ℕ → List ℕ → List ℕ
-masked [] vs = vs
-masked (w ∷ ws) [] = []
-masked (zero ∷ ws) (v ∷ vs) = 0 ∷ masked ws vs
-masked (suc w ∷ ws) (v ∷ vs) = v ∷ masked ws vs
+right-row : (b : Body) → rightRow (row b) ≡ true
+unfolding row segmentsOf indicesOf widths sum rightRow
+right-row AreaPage = refl
+right-row PlacePage = refl
+right-row CancelPage = refl
+right-row NoInformation = refl
 
-fit-masked : (ws vs : List ℕ) → Fit ws vs → masked ws vs ≡ vs
-unfolding masked
-fit-masked [] vs f = refl
-fit-masked (w ∷ ws) [] f = refl
-fit-masked (zero ∷ ws) (v ∷ vs) f = let h = f .0 in let z : 0 ≡ v = omega arith in ap₂ (λ (x : ℕ) (l : List ℕ). x ∷ l) z (fit-masked ws vs (f .1))
-fit-masked (suc w ∷ ws) (v ∷ vs) f = ap (v ∷_) (fit-masked ws vs (f .1))
+pub layout-sum : (b : Body) → sum (widths (layout b)) ≡ 88
+unfolding layout rightRow
+layout-sum b =
+    let n = sum (widths (segmentsOf (row b))) in
+    eqb-true n 88 (and-eq-true-iff (eqb n 88) (apart fieldCount (0 ∷ 1 ∷ 2 ∷ 3 ∷ indicesOf (row b))) .0 (right-row b) .0)
 
--- the record with the given page, kind and fields
-recordWith : (page kind : ℕ) → List ℕ → Record
-recordWith page kind vs =
+apart-indices : (b : Body) → apart fieldCount (0 ∷ 1 ∷ 2 ∷ 3 ∷ indices b) ≡ true
+unfolding indices rightRow
+apart-indices b =
+    and-eq-true-iff (eqb (sum (widths (segmentsOf (row b)))) 88) (apart fieldCount (0 ∷ 1 ∷ 2 ∷ 3 ∷ indicesOf (row b))) .0 (right-row b) .1
+
+record Placed (ks : List ℕ) : Type 0 where
+  reference : absent 0 ks ≡ true
+  pattern : absent 1 ks ≡ true
+  identification : absent 2 ks ≡ true
+  update : absent 3 ks ≡ true
+  within : apart fieldCount ks ≡ true
+
+placed : (b : Body) → Placed (indices b)
+placed b =
+    let ks = indices b in
+    let h0 = and-eq-true-iff (absent 0 ks) (apart fieldCount (1 ∷ 2 ∷ 3 ∷ ks)) .0 (apart-indices b) in
+    let h1 = and-eq-true-iff (absent 1 ks) (apart fieldCount (2 ∷ 3 ∷ ks)) .0 (h0 .1) in
+    let h2 = and-eq-true-iff (absent 2 ks) (apart fieldCount (3 ∷ ks)) .0 (h1 .1) in
+    let h3 = and-eq-true-iff (absent 3 ks) (apart fieldCount ks) .0 (h2 .1) in
+    record { reference = h0 .0; pattern = h1 .0; identification = h2 .0; update = h3 .0; within = h3 .1 }
+
+pub within-record : (b : Body) → apart fieldCount (indices b) ≡ true
+within-record b = placed b .within
+
+-- what stands before the details stays
+record Fronted (b : Body) (x p i u : ℕ) (us : List ℕ) : Type 0 where
+  reference : getD (inFields b x p i u us) 0 0 ≡ x
+  pattern : getD (inFields b x p i u us) 1 0 ≡ p
+  identification : getD (inFields b x p i u us) 2 0 ≡ i
+  update : getD (inFields b x p i u us) 3 0 ≡ ownUpdate b u
+
+fronted : (b : Body) (x p i u : ℕ) (us : List ℕ) → Fronted b x p i u us
+unfolding inFields beforeDetails
+fronted b x p i u us =
+    let h = placed b in
+    let at = scatter-other (indices b) us (beforeDetails b x p i u) in
     record {
-      reference = getD vs 0 0;
-      pattern = getD vs 1 0;
-      identification = getD vs 2 0;
-      update = getD vs 3 0;
-      time = getD vs 4 0;
-      page = page;
-      areas = getD vs 6 0;
-      total = getD vs 7 0;
-      item = getD vs 8 0;
-      number = getD vs 9 0;
-      kind = kind;
-      south = getD vs 11 0;
-      latitude = getD vs 12 0;
-      west = getD vs 13 0;
-      longitude = getD vs 14 0;
-      depth = getD vs 15 0;
-      occurred = getD vs 16 0;
-      broadcaster = getD vs 17 0;
+      reference = at 0 (h .reference);
+      pattern = at 1 (h .pattern);
+      identification = at 2 (h .identification);
+      update = at 3 (h .update);
     }
 
-with-fields : (b : Body) (r : Record) (page kind : ℕ) → page ≡ r .page → kind ≡ r .kind → Fit (fieldWidths b) (fields r)
-    → recordWith page kind (masked (fieldWidths b) (fields r)) ≡ r
-unfolding recordWith
-with-fields b r page kind p k f =
-    ap₂ (λ (x y : ℕ). recordWith x y (masked (fieldWidths b) (fields r))) p k
-    ∙ ap (recordWith (r .page) (r .kind)) (fit-masked (fieldWidths b) (fields r) f)
-
-zero-or-one : (n : ℕ) → n < 2 → n ≢ 1 → 0 ≡ n
-zero-or-one zero h n = refl
-zero-or-one (suc zero) h n = absurd (n refl)
-zero-or-one (suc (suc m)) h n = absurd (omega arith)
-
--- and the record that is found there: what is not free is 0
-pub body-record : (b : Body) (r : Record) {c : Class} → Chosen c (r .page) (r .kind) b → Fit (fieldWidths b) (fields r)
-    → recordOf b (r .reference) (r .pattern) (r .identification) (updateOf c (r .update)) (bodyValues b r) ≡ r
-unfolding fieldWidths bodyValues recordOf recordWith masked
-body-record AreaPage r (area n) f =
-    let h = fit-at (fieldWidths AreaPage) (fields r) f in
-    with-fields AreaPage r 0 0 (zero-or-one (r .page) (h 5) n) (omega (arith, h 10)) f
-body-record PlacePage r (place p n) f =
-    let h = fit-at (fieldWidths PlacePage) (fields r) f in
-    with-fields PlacePage r 1 0 (sym p) (zero-or-one (r .kind) (h 10) n) f
-body-record CancelPage r (cancel p k) f = with-fields CancelPage r 1 1 (sym p) (sym k) f
-body-record NoInformation r k f =
-    let h = fit-at (fieldWidths NoInformation) (fields r) f in
-    with-fields NoInformation r 0 0 (omega (arith, h 5)) (omega (arith, h 10)) f
-
--- the value of one segment
-pub unpack-at : (ws : List ℕ) (bs : List Bool) (i : ℕ) → getD (unpack ws bs) i 0 ≡ value (take (getD ws i 0) (drop (sum (take i ws)) bs))
-unfolding unpack sum value
-unpack-at [] bs i = refl
-unpack-at (w ∷ ws) bs zero = refl
-unpack-at (w ∷ ws) bs (suc i) = unpack-at ws (drop w bs) i ∙ ap (λ (d : List Bool). value (take (getD ws i 0) d)) (drop-drop (sum (take i ws)) w bs)
-
--- the value of a segment, in the details
-found : (b : Body) (r : Record) → Fit (fieldWidths b) (fields r) → (j : ℕ)
-    → let ws = widths (layout b) in value (take (getD ws j 0) (drop (sum (take j ws)) (pack ws (bodyValues b r)))) ≡ getD (bodyValues b r) j 0
-found b r f j =
-    let ws = widths (layout b) in
-    sym (unpack-at ws (pack ws (bodyValues b r)) j) ∙ ap (λ (l : List ℕ). getD l j 0) (unpack-pack ws (bodyValues b r) (body-fit b r f))
-
--- the page and the kind that stand in the details choose the body again
-pub body-again : (b : Body) (r : Record) {c : Class} → Chosen c (r .page) (r .kind) b → Fit (fieldWidths b) (fields r)
-    → let d = pack (widths (layout b)) (bodyValues b r) in bodyOf c (value (take 1 (drop 31 d))) (value (take 1 (drop 43 d))) ≡ b
-unfolding layout bodyValues widths sum
-body-again AreaPage r (area n) f = rw (found AreaPage r f 1)
-body-again PlacePage r (place p n) f = rw (found PlacePage r f 1, found PlacePage r f 5)
-body-again CancelPage r (cancel p k) f = rw (found CancelPage r f 1, found CancelPage r f 5)
-body-again NoInformation r silent f = refl
-body-again NoInformation r undefined f = refl
-
--- ---- the record that stands in a body's values
+length-inFields : (b : Body) (x p i u : ℕ) (us : List ℕ) → length (inFields b x p i u us) ≡ fieldCount
+unfolding inFields beforeDetails
+length-inFields b x p i u us = length-scatter (indices b) us (beforeDetails b x p i u)
 
 -- n elements from element k on, one by one
 elements : ℕ → ℕ → List ℕ → List ℕ
@@ -205,76 +165,144 @@ unfolding elements
 elements-all [] = refl
 elements-all (v ∷ vs) = ap (v ∷_) (elements-cons 0 (length vs) v vs ∙ elements-all vs)
 
--- a body's values, out of those of its fields
-listed : Body → List ℕ → List ℕ
-listed b us = withFixed (layout b) (elements 0 (length (freeWidths (layout b))) us)
+-- the fields of the record that has these
+fields-from : (v : List ℕ) → length v ≡ fieldCount → fields (recordFrom v) ≡ v
+unfolding recordFrom elements
+fields-from v n = ap (λ (k : ℕ). elements 0 k v) (sym n) ∙ elements-all v
 
-values-listed : (b : Body) (x p i u : ℕ) (us : List ℕ) → bodyValues b (recordOf b x p i u (listed b us)) ≡ listed b us
-unfolding listed elements layout withFixed freeWidths bodyValues recordOf
-values-listed AreaPage x p i u us = refl
-values-listed PlacePage x p i u us = refl
-values-listed CancelPage x p i u us = refl
-values-listed NoInformation x p i u us = refl
+-- ---- what a record puts into its body
 
--- values whose fixed ones hold, taken into a record and put again
-pub record-values : (b : Body) (x p i u : ℕ) (vs : List ℕ) → Fit (widths (layout b)) vs → fixedHold (layout b) vs ≡ true
-    → bodyValues b (recordOf b x p i u vs) ≡ vs
-unfolding listed
-record-values b x p i u vs f h =
+pub body-fit : (b : Body) (r : Record) → Fit (fieldWidths b) (fields r) → Fit (freeWidths (layout b)) (bodyValues b r)
+unfolding fieldWidths inFields bodyValues beforeDetails
+body-fit b r f =
+    subst (λ (ws : List ℕ). Fit ws (gather (indices b) (fields r)))
+    (gather-scatter (indices b) (freeWidths (layout b)) (beforeDetails b 1 1 3 2) (placed b .within) (length-free b))
+    (fit-gather (indices b) (fieldWidths b) (fields r) f)
+
+-- the fields that every record has, of those that fit
+pub record Heads (r : Record) : Type 0 where
+  pub reference : r .reference < 2
+  pub pattern : r .pattern < 2
+  pub identification : r .identification < 8
+
+pub heads : (b : Body) (r : Record) → Fit (fieldWidths b) (fields r) → Heads r
+unfolding fieldWidths
+heads b r f =
+    let h = fit-at (fieldWidths b) (fields r) f in
+    let w = fronted b 1 1 3 2 (freeWidths (layout b)) in
+    record { reference = rw (w .reference) at (h 0); pattern = rw (w .pattern) at (h 1); identification = rw (w .identification) at (h 2) }
+
+pub own-update : (b : Body) (r : Record) → Fit (fieldWidths b) (fields r) → r .update < 2 ^ ownUpdate b 2
+unfolding fieldWidths
+own-update b r f = rw (fronted b 1 1 3 2 (freeWidths (layout b)) .update) at (fit-at (fieldWidths b) (fields r) f 3)
+
+same : {x : ℕ} (y w : ℕ) → x ≡ y → y < 2 ^ w → x ≡ y
+same y w e h = e
+
+-- the update is the record's own, or 0 where it is not left free
+update-agrees : (b : Body) (r : Record) {c : Class} → Chosen c (r .page) (r .kind) b → r .update < 2 ^ ownUpdate b 2 → ownUpdate b (updateOf c (r .update)) ≡ r .update
+update-agrees AreaPage r (area n) h = refl
+update-agrees PlacePage r (place p n) h = refl
+update-agrees CancelPage r (cancel p k) h = refl
+update-agrees NoInformation r k h = omega arith
+
+-- and the record that is found there: what is not free is 0
+pub body-record : (b : Body) (r : Record) {c : Class} → Chosen c (r .page) (r .kind) b → Fit (fieldWidths b) (fields r)
+    → recordOf b (r .reference) (r .pattern) (r .identification) (updateOf c (r .update)) (bodyValues b r) ≡ r
+unfolding fieldWidths bodyValues recordOf recordFrom inFields beforeDetails
+body-record b r {c} ch f =
+    let u = updateOf c (r .update) in
+    let a : Agree (beforeDetails b 1 1 3 2) (beforeDetails b (r .reference) (r .pattern) (r .identification) u) (fields r) =
+    next (same (r .reference) 1 refl)
+    (next (same (r .pattern) 1 refl)
+    (next (same (r .identification) 3 refl)
+    (next (update-agrees b r ch) (agree-none (fieldCount - 4) (drop 4 (fields r)) refl)))) in
+    ap recordFrom (agree-fit (agree-scatter (indices b) (freeWidths (layout b)) (length-free b) a) f)
+
+-- the value of one segment
+unpack-at : (ws : List ℕ) (bs : List Bool) (i : ℕ) → getD (unpack ws bs) i 0 ≡ value (take (getD ws i 0) (drop (sum (take i ws)) bs))
+unfolding unpack sum value
+unpack-at [] bs i = refl
+unpack-at (w ∷ ws) bs zero = refl
+unpack-at (w ∷ ws) bs (suc i) = unpack-at ws (drop w bs) i ∙ ap (λ (d : List Bool). value (take (getD ws i 0) d)) (drop-drop (sum (take i ws)) w bs)
+
+-- the value of a segment, in the details
+found : (b : Body) (r : Record) → Fit (fieldWidths b) (fields r) → (j : ℕ)
+    → let l = layout b in value (take (getD (widths l) j 0) (drop (sum (take j (widths l))) (packSegments l (bodyValues b r)))) ≡ getD (withFixed l (bodyValues b r)) j 0
+found b r f j =
     let l = layout b in
-    let n : length vs ≡ length l = length-fit (widths l) vs f ∙ length-widths l in
-    let e : listed b (free l vs) ≡ vs =
-    ap (λ (k : ℕ). withFixed l (elements 0 k (free l vs))) (sym (length-free l vs n)) ∙ ap (withFixed l) (elements-all (free l vs)) ∙ withFixed-free l vs h in
-    subst (λ (y : List ℕ). bodyValues b (recordOf b x p i u y) ≡ y) e (values-listed b x p i u (free l vs))
+    sym (unpack-at (widths l) (packSegments l (bodyValues b r)) j)
+    ∙ ap (λ (vs : List ℕ). getD vs j 0) (unpack-pack (widths l) (withFixed l (bodyValues b r)) (fit-withFixed l (bodyValues b r) (body-fit b r f)))
 
-none-lt : 0 < 2 ^ 0
-none-lt = omega arith
+-- the page and the kind that stand in the details choose the body again
+pub body-again : (b : Body) (r : Record) {c : Class} → Chosen c (r .page) (r .kind) b → Fit (fieldWidths b) (fields r)
+    → let d = packSegments (layout b) (bodyValues b r) in bodyOf c (value (take 1 (drop 31 d))) (value (take 1 (drop 43 d))) ≡ b
+unfolding row segmentsOf indicesOf layout indices gather bodyValues widths withFixed sum
+body-again AreaPage r (area n) f = rw (found AreaPage r f 1, ne-eqb (r .page) 1 n)
+body-again PlacePage r (place p n) f = rw (found PlacePage r f 1, found PlacePage r f 5, p, ne-eqb (r .kind) 1 n)
+body-again CancelPage r (cancel p k) f = rw (found CancelPage r f 1, found CancelPage r f 5, p, k)
+body-again NoInformation r silent f = refl
+body-again NoInformation r undefined f = refl
 
-zero-lt : 0 < 2 ^ 1
-zero-lt = omega arith
+-- ---- the record that stands in a body's values
 
-one-lt : 1 < 2 ^ 1
-one-lt = omega arith
+-- values taken into a record and put again
+pub record-values : (b : Body) (x p i u : ℕ) (us : List ℕ) → Fit (freeWidths (layout b)) us → bodyValues b (recordOf b x p i u us) ≡ us
+unfolding bodyValues recordOf inFields beforeDetails
+record-values b x p i u us f =
+    ap (gather (indices b)) (fields-from (inFields b x p i u us) (length-inFields b x p i u us))
+    ∙ gather-scatter (indices b) us (beforeDetails b x p i u) (placed b .within) (length-fit (freeWidths (layout b)) us f ∙ length-free b)
+
+own-lt : (b : Body) (u : ℕ) → u < 4 → ownUpdate b u < 2 ^ ownUpdate b 2
+own-lt AreaPage u h = h
+own-lt PlacePage u h = h
+own-lt CancelPage u h = h
+own-lt NoInformation u h = omega arith
+
+fit-none : (n : ℕ) → Fit (replicate n 0) (replicate n 0)
+fit-none zero = tt
+fit-none (suc n) = (omega arith, fit-none n)
 
 -- and what was read fits
-pub record-fit : (b : Body) (x p i u : ℕ) (vs : List ℕ) → x < 2 → p < 2 → i < 8 → u < 4 → Fit (widths (layout b)) vs
-    → Fit (fieldWidths b) (fields (recordOf b x p i u vs))
-unfolding recordOf layout widths fieldWidths
-record-fit AreaPage x p i u vs hx hp hi hu f =
-    let h = fit-at (widths (layout AreaPage)) vs f in
-    (hx, (hp, (hi, (hu, (h 0, (zero-lt, (h 2, (none-lt, (none-lt, (none-lt, (none-lt, (none-lt, (none-lt, (none-lt, (none-lt, (none-lt, (none-lt, (none-lt, tt))))))))))))))))))
-record-fit PlacePage x p i u vs hx hp hi hu f =
-    let h = fit-at (widths (layout PlacePage)) vs f in
-    (hx, (hp, (hi, (hu, (h 0, (one-lt, (none-lt, (h 2, (h 3, (h 4, (zero-lt, (h 6, (h 7, (h 8, (h 9, (h 10, (h 11, (none-lt, tt))))))))))))))))))
-record-fit CancelPage x p i u vs hx hp hi hu f =
-    let h = fit-at (widths (layout CancelPage)) vs f in
-    (hx, (hp, (hi, (hu, (h 0, (one-lt, (none-lt, (h 2, (h 3, (h 4, (one-lt, (none-lt, (none-lt, (none-lt, (none-lt, (none-lt, (none-lt, (none-lt, tt))))))))))))))))))
-record-fit NoInformation x p i u vs hx hp hi hu f =
-    let h = fit-at (widths (layout NoInformation)) vs f in
-    (hx, (hp, (hi, (none-lt, (none-lt, (none-lt, (none-lt, (none-lt, (none-lt, (none-lt, (none-lt, (none-lt, (none-lt, (none-lt, (none-lt, (none-lt, (none-lt, (h 1, tt))))))))))))))))))
+pub record-fit : (b : Body) (x p i u : ℕ) (us : List ℕ) → x < 2 → p < 2 → i < 8 → u < 4 → Fit (freeWidths (layout b)) us
+    → Fit (fieldWidths b) (fields (recordOf b x p i u us))
+unfolding recordOf fieldWidths inFields beforeDetails
+record-fit b x p i u us hx hp hi hu f =
+    subst (Fit (fieldWidths b)) (sym (fields-from (inFields b x p i u us) (length-inFields b x p i u us)))
+    (fit-scatter (indices b) (freeWidths (layout b)) us (beforeDetails b 1 1 3 2) (beforeDetails b x p i u) f (hx, (hp, (hi, (own-lt b u hu, fit-none (fieldCount - 4))))))
+
+kind-at : (d : List Bool) → drop 9 (drop 1 (drop 1 (drop 1 (drop 31 d)))) ≡ drop 43 d
+kind-at d = simp drop-drop
 
 -- a record that was read has the body that it was read from
-pub record-body : (b : Body) (x p i u : ℕ) (vs : List ℕ) {c : Class} {page kind : ℕ} → Chosen c page kind b
-    → let r = recordOf b x p i u vs in bodyOf c (r .page) (r .kind) ≡ b
-unfolding recordOf
-record-body AreaPage x p i u vs (area n) = refl
-record-body PlacePage x p i u vs (place e n) = refl
-record-body CancelPage x p i u vs (cancel e k) = refl
-record-body NoInformation x p i u vs silent = refl
-record-body NoInformation x p i u vs undefined = refl
+pub record-body : (b : Body) (x p i u : ℕ) (d : List Bool) {c : Class} → Chosen c (value (take 1 (drop 31 d))) (value (take 1 (drop 43 d))) b
+    → let r = recordOf b x p i u (unpackSegments (layout b) d) in bodyOf c (r .page) (r .kind) ≡ b
+unfolding row segmentsOf indicesOf layout indices beforeDetails scatter inFields recordFrom recordOf widths free unpack
+record-body AreaPage x p i u d (area n) = rw (ne-eqb (value (take 1 (drop 31 d))) 1 n)
+record-body PlacePage x p i u d (place e n) = rw (e, kind-at d, ne-eqb (value (take 1 (drop 43 d))) 1 n)
+record-body CancelPage x p i u d (cancel e k) = rw (e, kind-at d, k)
+record-body NoInformation x p i u d silent = refl
+record-body NoInformation x p i u d undefined = refl
 
 -- what a record takes over as it stands
-pub record Taken (b : Body) (x p i u : ℕ) (vs : List ℕ) : Type 0 where
-  pub reference : recordOf b x p i u vs .reference ≡ x
-  pub pattern : recordOf b x p i u vs .pattern ≡ p
-  pub identification : recordOf b x p i u vs .identification ≡ i
+pub record Taken (b : Body) (x p i u : ℕ) (us : List ℕ) : Type 0 where
+  pub reference : recordOf b x p i u us .reference ≡ x
+  pub pattern : recordOf b x p i u us .pattern ≡ p
+  pub identification : recordOf b x p i u us .identification ≡ i
+  pub update : recordOf b x p i u us .update ≡ ownUpdate b u
   -- the place is the same with another reference and pattern
-  pub latitude : recordOf b x p i u vs .latitude ≡ recordOf b 0 0 i u vs .latitude
-  pub longitude : recordOf b x p i u vs .longitude ≡ recordOf b 0 0 i u vs .longitude
+  pub latitude : recordOf b x p i u us .latitude ≡ recordOf b 0 0 i u us .latitude
+  pub longitude : recordOf b x p i u us .longitude ≡ recordOf b 0 0 i u us .longitude
 
-pub taken : (b : Body) (x p i u : ℕ) (vs : List ℕ) → Taken b x p i u vs
-unfolding recordOf
-taken AreaPage x p i u vs = record { reference = refl; pattern = refl; identification = refl; latitude = refl; longitude = refl }
-taken PlacePage x p i u vs = record { reference = refl; pattern = refl; identification = refl; latitude = refl; longitude = refl }
-taken CancelPage x p i u vs = record { reference = refl; pattern = refl; identification = refl; latitude = refl; longitude = refl }
-taken NoInformation x p i u vs = record { reference = refl; pattern = refl; identification = refl; latitude = refl; longitude = refl }
+pub taken : (b : Body) (x p i u : ℕ) (us : List ℕ) → Taken b x p i u us
+unfolding recordOf recordFrom inFields beforeDetails
+taken b x p i u us =
+    let h = fronted b x p i u us in
+    record {
+      reference = h .reference;
+      pattern = h .pattern;
+      identification = h .identification;
+      update = h .update;
+      latitude = scatter-shared (indices b) us (beforeDetails b x p i u) (beforeDetails b 0 0 i u) 12 refl refl;
+      longitude = scatter-shared (indices b) us (beforeDetails b x p i u) (beforeDetails b 0 0 i u) 14 refl refl;
+    }

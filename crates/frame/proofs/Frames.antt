@@ -3,18 +3,18 @@ use mathlib.Core.Path.{_≡_, refl, sym, ap, ap₂, _∙_}
 use mathlib.Core.Bool.{Bool, true, false, cond, not}
 use mathlib.Core.Logic.{_≢_}
 use mathlib.Core.List.{List, [], _∷_, _++_, append-assoc}
-use Prim.Native.Nat.{ℕ, zero, suc, _+_, _≤_, _<_}
+use Prim.Native.Nat.{ℕ, zero, suc, _+_, _^_, _≤_, _<_}
 use native.Mathlib.Omega.{arith}
 use lib.Dec.{eqb}
 use lib.ListN.{length, take, drop, length-append}
 use borrow.Author.Tests.{eq-eqb, eqb-true}
 use Rattle.bits.specs.Bits.{value, bitsOf, bits}
 use Rattle.bits.specs.Field.{fieldAt}
-use Rattle.bits.specs.Layout.{pack, unpack, sum, Fit}
-use Rattle.bits.specs.Segment.{widths, fixedHold}
+use Rattle.bits.specs.Layout.{sum, Fit}
+use Rattle.bits.specs.Segment.{widths, packSegments, unpackSegments, fixedBitsHold}
 use Rattle.bits.specs.Refusal.{firstRefusal, NoneGiven}
 use Rattle.bits.proofs.Bits.{length-bitsOf, length-bytes, bits-bytes, value-bitsOf-fit, value-zeros}
-use Rattle.bits.proofs.Layouts.{length-pack, unpack-pack}
+use Rattle.bits.proofs.Segment.{length-packSegments, unpack-packSegments, fixed-packSegments}
 use Rattle.bits.proofs.Refusal.{refusal-later, refusal-none, none-refusal}
 use Rattle.gf2.specs.Polynomial.{zeros}
 use Rattle.crc.specs.Crc.{crc10, crc10Of}
@@ -25,9 +25,9 @@ use Rattle.dsc.proofs.Word.{length-word, length-parity, parity-word}
 use Rattle.dsc.proofs.Answers.{length-wordBytes, protected-wordBytes}
 use Rattle.frame.specs.Pattern.{patternWord, patternOf}
 use Rattle.frame.specs.Identification.{classOf, startEndOf, updateOf, flagsWrong, isUndefined}
-use Rattle.frame.specs.Body.{bodyOf, layout, bodyValues}
-use Rattle.frame.specs.Fields.{fields, fieldWidths, recordBody, overLimit, recordOf}
-use Rattle.frame.specs.Read.{identificationIn, bodyIn, valuesIn, recordIn, afterRepair}
+use Rattle.frame.specs.Body.{bodyOf, layout, ownUpdate}
+use Rattle.frame.specs.Fields.{fields, fieldWidths, bodyValues, recordBody, overLimit, recordOf}
+use Rattle.frame.specs.Read.{identificationIn, bodyIn, detailsIn, valuesIn, recordIn, afterRepair}
 use Rattle.frame.specs.Write.{Legal, announced, messageBits, frameOf}
 use Rattle.frame.specs.declared.Class.{Class}
 use Rattle.frame.specs.declared.Class.the-variants.{Warning, Silent, Undefined}
@@ -35,23 +35,16 @@ use Rattle.frame.specs.declared.Body.{Body}
 use Rattle.frame.specs.declared.Body.the-variants.{AreaPage, PlacePage, CancelPage, NoInformation}
 use Rattle.frame.specs.declared.Record.{Record}
 use Rattle.frame.proofs.Parts.{regroup, take-drop-take, inner-part, FrameParts, frame-parts, WordParts, word-parts}
-use Rattle.frame.proofs.Bodies.{Chosen, area, place, cancel, silent, undefined, chosen, legal-sound, fit-at, body-fit, body-fixed, body-record, body-again, taken}
+use Rattle.frame.proofs.Bodies.{layout-sum, Chosen, area, place, cancel, silent, undefined, chosen, legal-sound, heads, own-update, body-fit, body-record, body-again, taken}
 
 -- ---- the parts' sizes
-
-pub layout-sum : (b : Body) → sum (widths (layout b)) ≡ 88
-unfolding layout widths sum
-layout-sum AreaPage = refl
-layout-sum PlacePage = refl
-layout-sum CancelPage = refl
-layout-sum NoInformation = refl
 
 pub length-announced : (r : Record) → length (announced r) ≡ 91
 unfolding announced
 length-announced r =
     let b = recordBody r in
-    length-append (bitsOf 3 (r .identification)) (pack (widths (layout b)) (bodyValues b r))
-    ∙ ap₂ _+_ (length-bitsOf 3 (r .identification)) (length-pack (widths (layout b)) (bodyValues b r) ∙ layout-sum b)
+    length-append (bitsOf 3 (r .identification)) (packSegments (layout b) (bodyValues b r))
+    ∙ ap₂ _+_ (length-bitsOf 3 (r .identification)) (length-packSegments (layout b) (bodyValues b r) ∙ layout-sum b)
 
 pub length-message : (r : Record) → length (messageBits r) ≡ 105
 unfolding messageBits
@@ -88,25 +81,12 @@ parts-frame r =
 
 -- ---- the fields that every legal record has
 
-pub record Heads (r : Record) : Type 0 where
-  pub reference : r .reference < 2
-  pub pattern : r .pattern < 2
-  pub identification : r .identification < 8
-
-pub heads : (b : Body) (r : Record) → Fit (fieldWidths b) (fields r) → Heads r
-unfolding fieldWidths
-heads AreaPage r f = record { reference = f .0; pattern = f .1 .0; identification = f .1 .1 .0 }
-heads PlacePage r f = record { reference = f .0; pattern = f .1 .0; identification = f .1 .1 .0 }
-heads CancelPage r f = record { reference = f .0; pattern = f .1 .0; identification = f .1 .1 .0 }
-heads NoInformation r f = record { reference = f .0; pattern = f .1 .0; identification = f .1 .1 .0 }
-
-update-lt : (b : Body) (r : Record) {c : Class} → Chosen c (r .page) (r .kind) b → Fit (fieldWidths b) (fields r) → updateOf c (r .update) < 4
-unfolding fieldWidths
-update-lt AreaPage r (area n) f = fit-at (fieldWidths AreaPage) (fields r) f 3
-update-lt PlacePage r (place p n) f = fit-at (fieldWidths PlacePage) (fields r) f 3
-update-lt CancelPage r (cancel p k) f = fit-at (fieldWidths CancelPage) (fields r) f 3
-update-lt NoInformation r silent f = omega arith
-update-lt NoInformation r undefined f = omega (arith, fit-at (fieldWidths NoInformation) (fields r) f 3)
+update-lt : (b : Body) (r : Record) {c : Class} → Chosen c (r .page) (r .kind) b → r .update < 2 ^ ownUpdate b 2 → updateOf c (r .update) < 4
+update-lt AreaPage r (area n) h = h
+update-lt PlacePage r (place p n) h = h
+update-lt CancelPage r (cancel p k) h = h
+update-lt NoInformation r silent h = omega arith
+update-lt NoInformation r undefined h = omega arith
 
 start-lt : (c : Class) → startEndOf c < 4
 start-lt Warning = omega arith
@@ -124,7 +104,7 @@ flags-right Undefined u = rw (eq-eqb u u refl)
 module _ (r : Record) (c : List ℕ) (size : length c ≡ 26) (own : protected c ≡ wordOf r) where
   pub own-parts : let b = recordBody r in let cl = classOf (r .identification) in
       WordParts c (bitsOf 2 (startEndOf cl)) (bitsOf 2 (updateOf cl (r .update))) (bitsOf 3 (r .identification))
-      (pack (widths (layout b)) (bodyValues b r)) (crc10 (announced r))
+      (packSegments (layout b) (bodyValues b r)) (crc10 (announced r))
   unfolding messageBits announced
   own-parts =
       let b = recordBody r in
@@ -132,11 +112,11 @@ module _ (r : Record) (c : List ℕ) (size : length c ≡ 26) (own : protected c
       let s = bitsOf 2 (startEndOf cl) in
       let u = bitsOf 2 (updateOf cl (r .update)) in
       let p = parityOf (messageBits r) in
-      let d = pack (widths (layout b)) (bodyValues b r) in
+      let d = packSegments (layout b) (bodyValues b r) in
       let k = crc10 (announced r) in
       word-parts c s u (bitsOf 3 (r .identification)) d k p size
       (length-bitsOf 2 (startEndOf cl)) (length-bitsOf 2 (updateOf cl (r .update))) (length-bitsOf 3 (r .identification))
-      (length-pack (widths (layout b)) (bodyValues b r) ∙ layout-sum b) (length-crc10 (announced r))
+      (length-packSegments (layout b) (bodyValues b r) ∙ layout-sum b) (length-crc10 (announced r))
       (own ∙ regroup s u (announced r) k p)
 
 pub record Found (r : Record) (c : List ℕ) : Type 0 where
@@ -145,6 +125,7 @@ pub record Found (r : Record) (c : List ℕ) : Type 0 where
   pub update : fieldAt c 19 2 ≡ updateOf (classOf (r .identification)) (r .update)
   pub body : bodyIn c ≡ recordBody r
   pub values : valuesIn c ≡ bodyValues (recordBody r) r
+  pub fixed : fixedBitsHold (layout (bodyIn c)) (detailsIn c) ≡ true
   pub covered : take 91 (drop 21 (bits c)) ≡ announced r
   pub check : fieldAt c 112 10 ≡ crc10Of (announced r)
 
@@ -153,12 +134,11 @@ unfolding announced
 word-found r f =
     let b = recordBody r in
     let i = r .identification in
-    let ws = widths (layout b) in
     let c = wordBytes (wordOf r) in
     let p = own-parts r c (length-wordBytes (wordOf r)) (protected-wordBytes (wordOf r) (length-word (wordOf r) (record-word r))) in
     let ch = chosen (classOf i) (r .page) (r .kind) in
     let identification : identificationIn c ≡ i = ap value (p .identification) ∙ value-bitsOf-fit 3 i (heads b r f .identification) in
-    let bit : (k : ℕ) → k + 1 ≤ 88 → fieldAt c (24 + k) 1 ≡ value (take 1 (drop k (pack ws (bodyValues b r)))) =
+    let bit : (k : ℕ) → k + 1 ≤ 88 → fieldAt c (24 + k) 1 ≡ value (take 1 (drop k (packSegments (layout b) (bodyValues b r)))) =
     λ k h. ap value (sym (inner-part 1 k 88 24 (bits c) h) ∙ ap (λ (d : List Bool). take 1 (drop k d)) (p .details)) in
     let body : bodyIn c ≡ b =
     ap (λ (n : ℕ). bodyOf (classOf n) (fieldAt c 55 1) (fieldAt c 67 1)) identification
@@ -167,9 +147,10 @@ word-found r f =
     record {
       identification = identification;
       start = ap value (p .start) ∙ value-bitsOf-fit 2 (startEndOf (classOf i)) (start-lt (classOf i));
-      update = ap value (p .update) ∙ value-bitsOf-fit 2 (updateOf (classOf i) (r .update)) (update-lt b r ch f);
+      update = ap value (p .update) ∙ value-bitsOf-fit 2 (updateOf (classOf i) (r .update)) (update-lt b r ch (own-update b r f));
       body = body;
-      values = ap₂ (λ (x : Body) (d : List Bool). unpack (widths (layout x)) d) body (p .details) ∙ unpack-pack ws (bodyValues b r) (body-fit b r f);
+      values = ap₂ (λ (x : Body) (d : List Bool). unpackSegments (layout x) d) body (p .details) ∙ unpack-packSegments (layout b) (bodyValues b r) (body-fit b r f);
+      fixed = ap₂ (λ (x : Body) (d : List Bool). fixedBitsHold (layout x) d) body (p .details) ∙ fixed-packSegments (layout b) (bodyValues b r) (body-fit b r f);
       covered = p .covered;
       check = ap value (p .check);
     }
@@ -203,7 +184,7 @@ module _ (r : Record) (f : Fit (fieldWidths (recordBody r)) (fields r)) where
       (ap (λ (n : ℕ). flagsWrong (classOf n) (fieldAt c 17 2) (fieldAt c 19 2)) (h .identification)
       ∙ ap₂ (λ (m n : ℕ). flagsWrong (classOf i) m n) (h .start) (h .update)
       ∙ flags-right (classOf i) (r .update))
-      ∙ refusal-later 8 _ (ap not (ap₂ (λ (y : Body) (vs : List ℕ). fixedHold (layout y) vs) (h .body) (h .values) ∙ body-fixed b r))
+      ∙ refusal-later 8 _ (ap not (h .fixed))
       ∙ ap (λ (t : Bool). firstRefusal ((9, t) ∷ []))
       (ap (λ (y : Body). overLimit y (recordIn 0 0 c .latitude) (recordIn 0 0 c .longitude)) (h .body)
       ∙ ap₂ (λ (m n : ℕ). overLimit b m n) latitude longitude)

@@ -1,4 +1,5 @@
 pub mod Parts
+pub mod Indices
 pub mod Bodies
 pub mod Frames
 pub mod Areas

@@ -32,8 +32,8 @@ use Rattle.frame.specs.declared.Damage.{Damage}
 use Rattle.frame.specs.declared.Reading.{Reading}
 use Rattle.frame.specs.declared.Reading.the-variants.{Accepted, Refused}
 use Rattle.frame.proofs.Parts.{outside-split, part-split, part-bits, frame-bits}
-use Rattle.frame.proofs.Bodies.{legal-sound, taken}
-use Rattle.frame.proofs.Frames.{wordOf, record-word, length-frame, parts-frame, found-record, found-accepted, heads, word-pattern, outside}
+use Rattle.frame.proofs.Bodies.{legal-sound, heads, taken}
+use Rattle.frame.proofs.Frames.{wordOf, record-word, length-frame, parts-frame, found-record, found-accepted, word-pattern, outside}
 use Rattle.frame.proofs.Areas.{warned-on-air}
 use Rattle.frame.proofs.Readings.{Judged, accepted-judged, judged-accepted, judged-places, judged-dist, judged-read, read-legal, read-word}
 

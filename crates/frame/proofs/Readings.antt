@@ -8,13 +8,13 @@ use native.Mathlib.Omega.{arith}
 use lib.Dec.{eqb}
 use lib.ListN.{length, take, drop}
 use borrow.Author.Tests.{eq-eqb, ne-eqb, eqb-true, eqb-false, not-false}
-use Rattle.bits.specs.Bits.{bitsOf, bits}
+use Rattle.bits.specs.Bits.{value, bitsOf, bits}
 use Rattle.bits.specs.Field.{fieldAt}
-use Rattle.bits.specs.Layout.{pack, Fit}
-use Rattle.bits.specs.Segment.{widths}
+use Rattle.bits.specs.Layout.{Fit}
+use Rattle.bits.specs.Segment.{packSegments}
 use Rattle.bits.specs.Refusal.{firstRefusal, NoneGiven}
 use Rattle.bits.proofs.Bits.{value-take-lt}
-use Rattle.bits.proofs.Layouts.{pack-unpack, fit-unpack}
+use Rattle.bits.proofs.Segment.{pack-unpackSegments, fit-unpackSegments}
 use Rattle.bits.proofs.Refusal.{refusal-later, refusal-none, none-refusal}
 use Rattle.crc.specs.Crc.{crc10, crc10Of}
 use Rattle.crc.proofs.Crc.{crc10-bits}
@@ -26,17 +26,17 @@ use Rattle.dsc.proofs.Decoding.{Nearest, one, none, nearest}
 use Rattle.dsc.proofs.Answers.{length-protected, length-wordBytes, protected-wordBytes, repair-found, repair-none}
 use Rattle.frame.specs.Pattern.{patternOf}
 use Rattle.frame.specs.Identification.{classOf, startEndOf, updateOf, isUndefined}
-use Rattle.frame.specs.Body.{bodyOf, layout, bodyValues}
-use Rattle.frame.specs.Fields.{fields, fieldWidths, recordBody, overLimit, recordOf}
+use Rattle.frame.specs.Body.{bodyOf, layout, ownUpdate}
+use Rattle.frame.specs.Fields.{fields, fieldWidths, bodyValues, recordBody, overLimit}
 use Rattle.frame.specs.Read.{identificationIn, classIn, bodyIn, detailsIn, valuesIn, recordIn, beforeRepair, afterRepair, frameRefusal, placesIn, readOf}
 use Rattle.frame.specs.Write.{Legal, announced, messageBits}
 use Rattle.frame.specs.declared.Class.{Class}
 use Rattle.frame.specs.declared.Body.{Body}
 use Rattle.frame.specs.declared.Body.the-variants.{AreaPage, PlacePage, CancelPage, NoInformation}
 use Rattle.frame.specs.declared.Reading.the-variants.{Accepted}
-use Rattle.frame.proofs.Parts.{regroup, part-split, part-bits, length-part, frame-bits, word-split}
-use Rattle.frame.proofs.Bodies.{Chosen, area, place, cancel, silent, undefined, chosen, sound-legal, record-values, record-fit, record-body, taken}
-use Rattle.frame.proofs.Frames.{layout-sum, length-message, wordOf}
+use Rattle.frame.proofs.Parts.{regroup, inner-part, part-split, part-bits, length-part, frame-bits, word-split}
+use Rattle.frame.proofs.Bodies.{layout-sum, Chosen, area, place, cancel, silent, undefined, chosen, sound-legal, record-values, record-fit, record-body, taken}
+use Rattle.frame.proofs.Frames.{length-message, wordOf}
 
 -- ---- accepted frames
 
@@ -122,14 +122,17 @@ module _ (f : List ℕ) (j : Judged f) where
 -- ---- the record that is read
 
 -- the update, as the frame has it
-update-again : (b : Body) (x p i u : ℕ) (vs : List ℕ) {c : Class} {page kind : ℕ} → Chosen c page kind b → isUndefined c ≡ false → u ≡ updateOf c u
-    → updateOf c (recordOf b x p i u vs .update) ≡ u
-unfolding recordOf
-update-again AreaPage x p i u vs (area n) d e = refl
-update-again PlacePage x p i u vs (place q n) d e = refl
-update-again CancelPage x p i u vs (cancel q k) d e = refl
-update-again NoInformation x p i u vs silent d e = sym e
-update-again NoInformation x p i u vs undefined d e = absurd (true≢false d)
+update-again : (b : Body) (u : ℕ) {c : Class} {page kind : ℕ} → Chosen c page kind b → isUndefined c ≡ false → u ≡ updateOf c u → updateOf c (ownUpdate b u) ≡ u
+update-again AreaPage u (area n) d e = refl
+update-again PlacePage u (place q n) d e = refl
+update-again CancelPage u (cancel q k) d e = refl
+update-again NoInformation u silent d e = sym e
+update-again NoInformation u undefined d e = absurd (true≢false d)
+
+-- the body is chosen by what stands in the details
+chosen-in : (c : List ℕ) → Chosen (classIn c) (value (take 1 (drop 31 (detailsIn c)))) (value (take 1 (drop 43 (detailsIn c)))) (bodyIn c)
+chosen-in c =
+    rw (inner-part 1 31 88 24 (bits c) (omega arith), inner-part 1 43 88 24 (bits c) (omega arith)) (chosen (classIn c) (fieldAt c 55 1) (fieldAt c 67 1))
 
 module _ (w : List Bool) (k : CodeWord w) (t : NoneGiven (afterRepair (wordBytes w))) (x p : ℕ) where
   same-body : recordBody (recordIn x p (wordBytes w)) ≡ bodyIn (wordBytes w)
@@ -140,7 +143,7 @@ module _ (w : List Bool) (k : CodeWord w) (t : NoneGiven (afterRepair (wordBytes
       let i = identificationIn c in
       let u = fieldAt c 19 2 in
       ap (λ (n : ℕ). bodyOf (classOf n) (r .page) (r .kind)) (taken b x p i u (valuesIn c) .identification)
-      ∙ record-body b x p i u (valuesIn c) (chosen (classIn c) (fieldAt c 55 1) (fieldAt c 67 1))
+      ∙ record-body b x p i u (detailsIn c) (chosen-in c)
 
   pub read-legal : x < 2 → p < 2 → Legal (recordIn x p (wordBytes w))
   read-legal hx hp =
@@ -151,7 +154,7 @@ module _ (w : List Bool) (k : CodeWord w) (t : NoneGiven (afterRepair (wordBytes
       let u = fieldAt c 19 2 in
       let vs = valuesIn c in
       let y = taken b x p i u vs in
-      let f = record-fit b x p i u vs hx hp (value-take-lt 3 (drop 21 (bits c))) (value-take-lt 2 (drop 19 (bits c))) (fit-unpack (widths (layout b)) (detailsIn c)) in
+      let f = record-fit b x p i u vs hx hp (value-take-lt 3 (drop 21 (bits c))) (value-take-lt 2 (drop 19 (bits c))) (fit-unpackSegments (layout b) (detailsIn c)) in
       sound-legal r
       (record {
         known = ap (λ (n : ℕ). isUndefined (classOf n)) (y .identification) ∙ t .1 .0;
@@ -173,11 +176,11 @@ module _ (w : List Bool) (k : CodeWord w) (t : NoneGiven (afterRepair (wordBytes
       let i = identificationIn c in
       let u = fieldAt c 19 2 in
       let vs = valuesIn c in
-      let ws = widths (layout b) in
+      let l = layout b in
       let fixed = not-false _ (t .1 .1 .1 .0) in
-      ap₂ (λ (n : ℕ) (z : Body). bitsOf 3 n ++ pack (widths (layout z)) (bodyValues z r)) (taken b x p i u vs .identification) same-body
-      ∙ ap₂ (λ (m : List Bool) (y : List ℕ). m ++ pack ws y) (part-bits 21 3 (bits c) (omega arith)) (record-values b x p i u vs (fit-unpack ws (detailsIn c)) fixed)
-      ∙ ap (take 3 (drop 21 (bits c)) ++_) (pack-unpack ws (detailsIn c) (length-part 24 88 (bits c) (omega arith) ∙ sym (layout-sum b)))
+      ap₂ (λ (n : ℕ) (z : Body). bitsOf 3 n ++ packSegments (layout z) (bodyValues z r)) (taken b x p i u vs .identification) same-body
+      ∙ ap₂ (λ (m : List Bool) (y : List ℕ). m ++ packSegments l y) (part-bits 21 3 (bits c) (omega arith)) (record-values b x p i u vs (fit-unpackSegments l (detailsIn c)))
+      ∙ ap (take 3 (drop 21 (bits c)) ++_) (pack-unpackSegments l (detailsIn c) (length-part 24 88 (bits c) (omega arith) ∙ sym (layout-sum b)) fixed)
 
   -- B17 to B121
   read-message : let b = bits (wordBytes w) in
@@ -199,8 +202,8 @@ module _ (w : List Bool) (k : CodeWord w) (t : NoneGiven (afterRepair (wordBytes
       let flags = and-eq-true-iff (eqb s (startEndOf cl)) (eqb u (updateOf cl u)) .0 (not-false _ (t .1 .1 .0)) in
       let start : startEndOf (classOf (r .identification)) ≡ s = ap startEndOf class ∙ sym (eqb-true s (startEndOf cl) (flags .0)) in
       let update : updateOf (classOf (r .identification)) (r .update) ≡ u =
-      ap (λ (z : Class). updateOf z (r .update)) class
-      ∙ update-again b x p i u vs (chosen cl (fieldAt c 55 1) (fieldAt c 67 1)) (t .1 .0) (eqb-true u (updateOf cl u) (flags .1)) in
+      ap₂ updateOf class (taken b x p i u vs .update)
+      ∙ update-again b u (chosen cl (fieldAt c 55 1) (fieldAt c 67 1)) (t .1 .0) (eqb-true u (updateOf cl u) (flags .1)) in
       let number : fieldAt c 112 10 ≡ crc10Of (take 91 (drop 21 (bits c))) = eqb-true (fieldAt c 112 10) (crc10Of (take 91 (drop 21 (bits c)))) (not-false _ (t .0)) in
       let check : crc10 (announced r) ≡ take 10 (drop 112 (bits c)) =
       ap crc10 (read-announced ∙ sym (part-split 21 3 88 (bits c)))

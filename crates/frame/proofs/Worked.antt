@@ -10,6 +10,7 @@ use lib.ListN.{replicate}
 use borrow.Author.Tests.{lt-ltb, le-ltb, not-false, ne-eqb}
 use Rattle.bits.specs.Bits.{digit, odd, value, bitsOf, bits}
 use Rattle.bits.specs.Layout.{Fit, fitb}
+use Rattle.bits.specs.Segment.{freeWidths}
 use Rattle.bits.specs.Refusal.{firstRefusal}
 use Rattle.bits.proofs.Computed.{below, below-at, T-not}
 use Rattle.bits.proofs.Layouts.{fitb-fit}
@@ -17,7 +18,9 @@ use Rattle.bits.proofs.Refusal.{refusal-here, refusal-later, refusal-append-giv
 use Rattle.dsc.specs.Repair.{numberOf, repairOf}
 use Rattle.frame.specs.Pattern.{patternWord, patternOf}
 use Rattle.frame.specs.Identification.{classOf, isUndefined}
-use Rattle.frame.specs.Fields.{fields, fieldWidths, recordBody, overLimit}
+use Rattle.frame.specs.Entry.{segmentsOf, indicesOf}
+use Rattle.frame.specs.Body.{row, layout, indices}
+use Rattle.frame.specs.Fields.{fields, scatter, beforeDetails, inFields, fieldWidths, recordBody, overLimit}
 use Rattle.frame.specs.Area.{warnedIn}
 use Rattle.frame.specs.Read.{beforeRepair, afterRepair, frameRefusal, readOf}
 use Rattle.frame.specs.Write.{Legal, recordRefusal, frameOf}
@@ -27,8 +30,8 @@ use Rattle.frame.specs.declared.Body.{Body}
 use Rattle.frame.specs.declared.Body.the-variants.{PlacePage}
 use Rattle.frame.specs.declared.Record.{Record}
 use Rattle.frame.specs.declared.Reading.the-variants.{Refused}
-use Rattle.frame.proofs.Bodies.{Chosen, place, chosen, sound-legal}
-use Rattle.frame.proofs.Frames.{wordOf, length-frame, found-refusal, heads, outside}
+use Rattle.frame.proofs.Bodies.{Chosen, place, chosen, sound-legal, heads}
+use Rattle.frame.proofs.Frames.{wordOf, length-frame, found-refusal, outside}
 use Rattle.frame.proofs.Readings.{repaired-refusal}
 use Rattle.frame.proofs.Promises.{comes-back, repair-own, refused-read}
 
@@ -66,7 +69,7 @@ not-read r a =
     refused-read f (λ z. omega arith) ∙ ap Refused e
 
 some : (n : ℕ) → n < 1024 → AtLatitude n (atLatitude n)
-unfolding atLatitude classOf fieldWidths
+unfolding atLatitude classOf row segmentsOf indicesOf layout indices scatter beforeDetails inFields fieldWidths freeWidths
 some n h = record { body = refl; fit = rw (lt-ltb n 1024 h); longitude = omega arith; latitude = refl }
 
 zero-bytes : readOf (replicate 26 0) ≡ Refused 3

@@ -1,27 +1,80 @@
 -- A record's fields: as a list, their widths, and the record of a body's values. Assumes nothing.
 use mathlib.Core.List.{List, [], _∷_}
 use mathlib.Core.Bool.{Bool, false, not, _||_}
-use Prim.Native.Nat.{ℕ}
+use Prim.Native.Nat.{ℕ, _-_}
 use lib.Dec.{ltb}
-use lib.ListN.{getD}
+use lib.ListN.{getD, set, replicate}
 use Rattle.bits.specs.Layout.{fitb}
+use Rattle.bits.specs.Segment.{freeWidths}
 use Rattle.frame.specs.Identification.{classOf}
 use Rattle.frame.specs.declared.Body.{Body}
 use Rattle.frame.specs.declared.Body.the-variants.{AreaPage, PlacePage, CancelPage, NoInformation}
-use Rattle.frame.specs.Body.{bodyOf}
+use Rattle.frame.specs.Body.{bodyOf, layout, indices, ownUpdate}
 use Rattle.frame.specs.declared.Record.{Record}
+
+-- how many fields a record has
+abbrev pub fieldCount : ℕ
+fieldCount = 18
 
 abbrev pub fields : Record → List ℕ
 fields r =
     r .reference ∷ r .pattern ∷ r .identification ∷ r .update ∷ r .time ∷ r .page ∷ r .areas ∷ r .total ∷ r .item ∷ r .number ∷ r .kind ∷ r .south ∷ r .latitude
     ∷ r .west ∷ r .longitude ∷ r .depth ∷ r .occurred ∷ r .broadcaster ∷ []
 
+-- the record that has these fields
+unfoldable pub recordFrom : List ℕ → Record
+recordFrom v =
+    record {
+      reference = getD v 0 0;
+      pattern = getD v 1 0;
+      identification = getD v 2 0;
+      update = getD v 3 0;
+      time = getD v 4 0;
+      page = getD v 5 0;
+      areas = getD v 6 0;
+      total = getD v 7 0;
+      item = getD v 8 0;
+      number = getD v 9 0;
+      kind = getD v 10 0;
+      south = getD v 11 0;
+      latitude = getD v 12 0;
+      west = getD v 13 0;
+      longitude = getD v 14 0;
+      depth = getD v 15 0;
+      occurred = getD v 16 0;
+      broadcaster = getD v 17 0;
+    }
+
+-- the elements of f at the indices ks
+unfoldable pub gather : (ks f : List ℕ) → List ℕ
+gather [] f = []
+gather (k ∷ ks) f = getD f k 0 ∷ gather ks f
+
+-- f with the values vs at the indices ks
+unfoldable pub scatter : (ks vs f : List ℕ) → List ℕ
+scatter [] vs f = f
+scatter (k ∷ ks) [] f = f
+scatter (k ∷ ks) (v ∷ vs) f = scatter ks vs (set f k v)
+
+-- a number for each field of the record: those that stand before the details, and 0 for every other
+unfoldable pub beforeDetails : Body → (reference pattern identification update : ℕ) → List ℕ
+beforeDetails b x p i u = x ∷ p ∷ i ∷ ownUpdate b u ∷ replicate (fieldCount - 4) 0
+
+-- and with the numbers us for the fields that the body holds
+unfoldable pub inFields : Body → (reference pattern identification update : ℕ) → List ℕ → List ℕ
+inFields b x p i u us = scatter (indices b) us (beforeDetails b x p i u)
+
 -- how many bits each field has in a body; 0 where the identification, page and kind do not leave it free
 unfoldable pub fieldWidths : Body → List ℕ
-fieldWidths AreaPage = 1 ∷ 1 ∷ 3 ∷ 2 ∷ 31 ∷ 1 ∷ 56 ∷ 0 ∷ 0 ∷ 0 ∷ 0 ∷ 0 ∷ 0 ∷ 0 ∷ 0 ∷ 0 ∷ 0 ∷ 0 ∷ []
-fieldWidths PlacePage = 1 ∷ 1 ∷ 3 ∷ 2 ∷ 31 ∷ 1 ∷ 0 ∷ 1 ∷ 1 ∷ 9 ∷ 1 ∷ 1 ∷ 10 ∷ 1 ∷ 11 ∷ 10 ∷ 10 ∷ 0 ∷ []
-fieldWidths CancelPage = 1 ∷ 1 ∷ 3 ∷ 2 ∷ 31 ∷ 1 ∷ 0 ∷ 1 ∷ 1 ∷ 9 ∷ 1 ∷ 0 ∷ 0 ∷ 0 ∷ 0 ∷ 0 ∷ 0 ∷ 0 ∷ []
-fieldWidths NoInformation = 1 ∷ 1 ∷ 3 ∷ 0 ∷ 0 ∷ 0 ∷ 0 ∷ 0 ∷ 0 ∷ 0 ∷ 0 ∷ 0 ∷ 0 ∷ 0 ∷ 0 ∷ 0 ∷ 0 ∷ 11 ∷ []
+fieldWidths b = inFields b 1 1 3 2 (freeWidths (layout b))
+
+-- what a record puts into the fields of a body
+unfoldable pub bodyValues : Body → Record → List ℕ
+bodyValues b r = gather (indices b) (fields r)
+
+-- the record of the values us that stand in a body's fields, with the reference, the pattern, the identification and the update
+unfoldable pub recordOf : Body → (reference pattern identification update : ℕ) → List ℕ → Record
+recordOf b x p i u us = recordFrom (inFields b x p i u us)
 
 -- the body that a record has
 abbrev pub recordBody : Record → Body
@@ -37,90 +90,3 @@ overLimit AreaPage latitude longitude = false
 overLimit PlacePage latitude longitude = ltb 900 latitude || ltb 1800 longitude
 overLimit CancelPage latitude longitude = false
 overLimit NoInformation latitude longitude = false
-
--- the record of the values vs that stand in a body's segments, with the reference, the pattern, the identification and the update
-unfoldable pub recordOf : Body → (reference pattern identification update : ℕ) → List ℕ → Record
-recordOf AreaPage b p i u vs =
-    record {
-      reference = b;
-      pattern = p;
-      identification = i;
-      update = u;
-      time = getD vs 0 0;
-      page = 0;
-      areas = getD vs 2 0;
-      total = 0;
-      item = 0;
-      number = 0;
-      kind = 0;
-      south = 0;
-      latitude = 0;
-      west = 0;
-      longitude = 0;
-      depth = 0;
-      occurred = 0;
-      broadcaster = 0;
-    }
-recordOf PlacePage b p i u vs =
-    record {
-      reference = b;
-      pattern = p;
-      identification = i;
-      update = u;
-      time = getD vs 0 0;
-      page = 1;
-      areas = 0;
-      total = getD vs 2 0;
-      item = getD vs 3 0;
-      number = getD vs 4 0;
-      kind = 0;
-      south = getD vs 6 0;
-      latitude = getD vs 7 0;
-      west = getD vs 8 0;
-      longitude = getD vs 9 0;
-      depth = getD vs 10 0;
-      occurred = getD vs 11 0;
-      broadcaster = 0;
-    }
-recordOf CancelPage b p i u vs =
-    record {
-      reference = b;
-      pattern = p;
-      identification = i;
-      update = u;
-      time = getD vs 0 0;
-      page = 1;
-      areas = 0;
-      total = getD vs 2 0;
-      item = getD vs 3 0;
-      number = getD vs 4 0;
-      kind = 1;
-      south = 0;
-      latitude = 0;
-      west = 0;
-      longitude = 0;
-      depth = 0;
-      occurred = 0;
-      broadcaster = 0;
-    }
-recordOf NoInformation b p i u vs =
-    record {
-      reference = b;
-      pattern = p;
-      identification = i;
-      update = 0;
-      time = 0;
-      page = 0;
-      areas = 0;
-      total = 0;
-      item = 0;
-      number = 0;
-      kind = 0;
-      south = 0;
-      latitude = 0;
-      west = 0;
-      longitude = 0;
-      depth = 0;
-      occurred = 0;
-      broadcaster = getD vs 1 0;
-    }

@@ -1,5 +1,6 @@
 pub mod Pattern
 pub mod Identification
+pub mod Entry
 pub mod Body
 pub mod Fields
 pub mod Read

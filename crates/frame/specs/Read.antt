@@ -7,8 +7,7 @@ use lib.ListN.{length, take, drop, replicate}
 use Rattle.bits.specs.Bits.{bits, bytes, bitsOf}
 use Rattle.gf2.specs.Polynomial.{zeros}
 use Rattle.bits.specs.Field.{fieldAt}
-use Rattle.bits.specs.Layout.{unpack}
-use Rattle.bits.specs.Segment.{widths, fixedBitsHold}
+use Rattle.bits.specs.Segment.{unpackSegments, fixedBitsHold}
 use Rattle.bits.specs.Refusal.{firstRefusal}
 use Rattle.crc.specs.Crc.{crc10Of}
 use Rattle.dsc.specs.Repair.{protected, numberOf, placesOf, repairOf}
@@ -40,9 +39,9 @@ bodyIn c = bodyOf (classIn c) (fieldAt c 55 1) (fieldAt c 67 1)
 abbrev pub detailsIn : List ℕ → List Bool
 detailsIn c = take 88 (drop 24 (bits c))
 
--- the values of the body's segments
+-- the values of the body's fields
 abbrev pub valuesIn : List ℕ → List ℕ
-valuesIn c = unpack (widths (layout (bodyIn c))) (detailsIn c)
+valuesIn c = unpackSegments (layout (bodyIn c)) (detailsIn c)
 
 -- the record, with the reference and the pattern, which the code does not protect
 abbrev pub recordIn : (reference pattern : ℕ) → List ℕ → Record

@@ -6,16 +6,15 @@ use Prim.Native.Nat.{ℕ}
 use lib.Dec.{eqb}
 use lib.ListN.{length}
 use Rattle.bits.specs.Bits.{bits, bytes, bitsOf}
-use Rattle.bits.specs.Layout.{pack}
-use Rattle.bits.specs.Segment.{widths}
+use Rattle.bits.specs.Segment.{packSegments}
 use Rattle.bits.specs.Refusal.{firstRefusal}
 use Rattle.crc.specs.Crc.{crc10}
 use Rattle.gf2.specs.Polynomial.{zeros}
 use Rattle.dsc.specs.Code.{parityOf}
 use Rattle.frame.specs.Pattern.{patternWord}
 use Rattle.frame.specs.Identification.{classOf, startEndOf, updateOf, isUndefined}
-use Rattle.frame.specs.Body.{layout, bodyValues}
-use Rattle.frame.specs.Fields.{recordBody, tooWide, overLimit}
+use Rattle.frame.specs.Body.{layout}
+use Rattle.frame.specs.Fields.{bodyValues, recordBody, tooWide, overLimit}
 use Rattle.frame.specs.declared.Record.{Record}
 
 -- what a record itself is tested for, in order
@@ -36,7 +35,7 @@ Legal r = recordRefusal r ≡ 0
 
 -- B21 to B111: the identification and the details
 unfoldable pub announced : Record → List Bool
-announced r = bitsOf 3 (r .identification) ++ pack (widths (layout (recordBody r))) (bodyValues (recordBody r) r)
+announced r = bitsOf 3 (r .identification) ++ packSegments (layout (recordBody r)) (bodyValues (recordBody r) r)
 
 -- B17 to B121: start/end, update, identification, details, CRC
 unfoldable pub messageBits : Record → List Bool
