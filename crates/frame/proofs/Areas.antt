@@ -29,7 +29,7 @@ after w v k l = ap (λ (n : ℕ). getD (bitsOf w v ++ l) (n + k) false) (sym (le
 
 -- bit 32 + k of the details
 in-details : (r : Record) (k : ℕ) → k < 56 → getD (packSegments (layout AreaPage) (bodyValues AreaPage r)) (32 + k) false ≡ odd (r .areas / 2 ^ (55 - k))
-unfolding row segmentsOf indicesOf layout indices gather bodyValues widths withFixed pack
+unfolding row layout gather bodyValues widths withFixed pack
 in-details r k h =
     let details = bitsOf 31 (r .time) ++ (bitsOf 1 (r .page) ++ (bitsOf 56 (r .areas) ++ [])) in
     ap (λ (n : ℕ). getD details n false) (omega arith)

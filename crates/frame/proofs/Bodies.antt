@@ -77,13 +77,13 @@ sound-legal r s =
 
 -- as many indices as fields
 indices-fields : (l : List Entry) → length (freeWidths (segmentsOf l)) ≡ length (indicesOf l)
-unfolding segmentsOf indicesOf freeWidths
+unfolding freeWidths
 indices-fields [] = refl
 indices-fields (held k w ∷ l) = ap suc (indices-fields l)
 indices-fields (ones w ∷ l) = indices-fields l
 
 pub length-free : (b : Body) → length (freeWidths (layout b)) ≡ length (indices b)
-unfolding layout indices
+unfolding layout
 length-free b = indices-fields (row b)
 
 -- what is to be seen of a row: it has 88 bits, and its indices lie in the record, after the fields that stand before the details, no two of them one
@@ -91,7 +91,7 @@ rightRow : List Entry → Bool
 rightRow l = eqb (sum (widths (segmentsOf l))) 88 && apart fieldCount (0 ∷ 1 ∷ 2 ∷ 3 ∷ indicesOf l)
 
 right-row : (b : Body) → rightRow (row b) ≡ true
-unfolding row segmentsOf indicesOf widths sum rightRow
+unfolding row widths sum rightRow
 right-row AreaPage = refl
 right-row PlacePage = refl
 right-row CancelPage = refl
@@ -104,7 +104,7 @@ layout-sum b =
     eqb-true n 88 (and-eq-true-iff (eqb n 88) (apart fieldCount (0 ∷ 1 ∷ 2 ∷ 3 ∷ indicesOf (row b))) .0 (right-row b) .0)
 
 apart-indices : (b : Body) → apart fieldCount (0 ∷ 1 ∷ 2 ∷ 3 ∷ indices b) ≡ true
-unfolding indices rightRow
+unfolding rightRow
 apart-indices b =
     and-eq-true-iff (eqb (sum (widths (segmentsOf (row b)))) 88) (apart fieldCount (0 ∷ 1 ∷ 2 ∷ 3 ∷ indicesOf (row b))) .0 (right-row b) .1
 
@@ -135,7 +135,6 @@ record Fronted (b : Body) (x p i u : ℕ) (us : List ℕ) : Type 0 where
   update : getD (inFields b x p i u us) 3 0 ≡ ownUpdate b u
 
 fronted : (b : Body) (x p i u : ℕ) (us : List ℕ) → Fronted b x p i u us
-unfolding inFields beforeDetails
 fronted b x p i u us =
     let h = placed b in
     let at = scatter-other (indices b) us (beforeDetails b x p i u) in
@@ -147,8 +146,11 @@ fronted b x p i u us =
     }
 
 length-inFields : (b : Body) (x p i u : ℕ) (us : List ℕ) → length (inFields b x p i u us) ≡ fieldCount
-unfolding inFields beforeDetails
 length-inFields b x p i u us = length-scatter (indices b) us (beforeDetails b x p i u)
+
+pub length-fieldWidths : (b : Body) → length (fieldWidths b) ≡ fieldCount
+unfolding fieldWidths
+length-fieldWidths b = length-inFields b 1 1 3 2 (freeWidths (layout b))
 
 -- n elements from element k on, one by one
 elements : ℕ → ℕ → List ℕ → List ℕ
@@ -173,7 +175,7 @@ fields-from v n = ap (λ (k : ℕ). elements 0 k v) (sym n) ∙ elements-all v
 -- ---- what a record puts into its body
 
 pub body-fit : (b : Body) (r : Record) → Fit (fieldWidths b) (fields r) → Fit (freeWidths (layout b)) (bodyValues b r)
-unfolding fieldWidths inFields bodyValues beforeDetails
+unfolding fieldWidths bodyValues
 body-fit b r f =
     subst (λ (ws : List ℕ). Fit ws (gather (indices b) (fields r)))
     (gather-scatter (indices b) (freeWidths (layout b)) (beforeDetails b 1 1 3 2) (placed b .within) (length-free b))
@@ -209,7 +211,7 @@ update-agrees NoInformation r k h = omega arith
 -- and the record that is found there: what is not free is 0
 pub body-record : (b : Body) (r : Record) {c : Class} → Chosen c (r .page) (r .kind) b → Fit (fieldWidths b) (fields r)
     → recordOf b (r .reference) (r .pattern) (r .identification) (updateOf c (r .update)) (bodyValues b r) ≡ r
-unfolding fieldWidths bodyValues recordOf recordFrom inFields beforeDetails
+unfolding fieldWidths bodyValues recordOf recordFrom
 body-record b r {c} ch f =
     let u = updateOf c (r .update) in
     let a : Agree (beforeDetails b 1 1 3 2) (beforeDetails b (r .reference) (r .pattern) (r .identification) u) (fields r) =
@@ -237,7 +239,7 @@ found b r f j =
 -- the page and the kind that stand in the details choose the body again
 pub body-again : (b : Body) (r : Record) {c : Class} → Chosen c (r .page) (r .kind) b → Fit (fieldWidths b) (fields r)
     → let d = packSegments (layout b) (bodyValues b r) in bodyOf c (value (take 1 (drop 31 d))) (value (take 1 (drop 43 d))) ≡ b
-unfolding row segmentsOf indicesOf layout indices gather bodyValues widths withFixed sum
+unfolding row layout gather bodyValues widths withFixed sum
 body-again AreaPage r (area n) f = rw (found AreaPage r f 1, ne-eqb (r .page) 1 n)
 body-again PlacePage r (place p n) f = rw (found PlacePage r f 1, found PlacePage r f 5, p, ne-eqb (r .kind) 1 n)
 body-again CancelPage r (cancel p k) f = rw (found CancelPage r f 1, found CancelPage r f 5, p, k)
@@ -248,7 +250,7 @@ body-again NoInformation r undefined f = refl
 
 -- values taken into a record and put again
 pub record-values : (b : Body) (x p i u : ℕ) (us : List ℕ) → Fit (freeWidths (layout b)) us → bodyValues b (recordOf b x p i u us) ≡ us
-unfolding bodyValues recordOf inFields beforeDetails
+unfolding bodyValues recordOf
 record-values b x p i u us f =
     ap (gather (indices b)) (fields-from (inFields b x p i u us) (length-inFields b x p i u us))
     ∙ gather-scatter (indices b) us (beforeDetails b x p i u) (placed b .within) (length-fit (freeWidths (layout b)) us f ∙ length-free b)
@@ -266,7 +268,7 @@ fit-none (suc n) = (omega arith, fit-none n)
 -- and what was read fits
 pub record-fit : (b : Body) (x p i u : ℕ) (us : List ℕ) → x < 2 → p < 2 → i < 8 → u < 4 → Fit (freeWidths (layout b)) us
     → Fit (fieldWidths b) (fields (recordOf b x p i u us))
-unfolding recordOf fieldWidths inFields beforeDetails
+unfolding recordOf fieldWidths
 record-fit b x p i u us hx hp hi hu f =
     subst (Fit (fieldWidths b)) (sym (fields-from (inFields b x p i u us) (length-inFields b x p i u us)))
     (fit-scatter (indices b) (freeWidths (layout b)) us (beforeDetails b 1 1 3 2) (beforeDetails b x p i u) f (hx, (hp, (hi, (own-lt b u hu, fit-none (fieldCount - 4))))))
@@ -277,7 +279,7 @@ kind-at d = simp drop-drop
 -- a record that was read has the body that it was read from
 pub record-body : (b : Body) (x p i u : ℕ) (d : List Bool) {c : Class} → Chosen c (value (take 1 (drop 31 d))) (value (take 1 (drop 43 d))) b
     → let r = recordOf b x p i u (unpackSegments (layout b) d) in bodyOf c (r .page) (r .kind) ≡ b
-unfolding row segmentsOf indicesOf layout indices beforeDetails scatter inFields recordFrom recordOf widths free unpack
+unfolding row layout scatter recordFrom recordOf widths free unpack
 record-body AreaPage x p i u d (area n) = rw (ne-eqb (value (take 1 (drop 31 d))) 1 n)
 record-body PlacePage x p i u d (place e n) = rw (e, kind-at d, ne-eqb (value (take 1 (drop 43 d))) 1 n)
 record-body CancelPage x p i u d (cancel e k) = rw (e, kind-at d, k)
@@ -295,7 +297,7 @@ pub record Taken (b : Body) (x p i u : ℕ) (us : List ℕ) : Type 0 where
   pub longitude : recordOf b x p i u us .longitude ≡ recordOf b 0 0 i u us .longitude
 
 pub taken : (b : Body) (x p i u : ℕ) (us : List ℕ) → Taken b x p i u us
-unfolding recordOf recordFrom inFields beforeDetails
+unfolding recordOf recordFrom
 taken b x p i u us =
     let h = fronted b x p i u us in
     record {

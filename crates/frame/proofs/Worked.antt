@@ -69,7 +69,7 @@ not-read r a =
     refused-read f (λ z. omega arith) ∙ ap Refused e
 
 some : (n : ℕ) → n < 1024 → AtLatitude n (atLatitude n)
-unfolding atLatitude classOf row segmentsOf indicesOf layout indices scatter beforeDetails inFields fieldWidths freeWidths
+unfolding atLatitude classOf row layout scatter fieldWidths freeWidths
 some n h = record { body = refl; fit = rw (lt-ltb n 1024 h); longitude = omega arith; latitude = refl }
 
 zero-bytes : readOf (replicate 26 0) ≡ Refused 3

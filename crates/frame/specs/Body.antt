@@ -30,7 +30,7 @@ unfoldable pub layout : Body → List Segment
 layout b = segmentsOf (row b)
 
 -- the indices of the record's fields that it holds, in its order
-unfoldable pub indices : Body → List ℕ
+abbrev pub indices : Body → List ℕ
 indices b = indicesOf (row b)
 
 -- the update, B19 to B20, as the record has it: 0 where the body does not leave it free

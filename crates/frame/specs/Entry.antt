@@ -13,11 +13,11 @@ abbrev pub segmentOf : Entry → Segment
 segmentOf (held k w) = field w
 segmentOf (ones w) = fixedOnes w
 
-unfoldable pub segmentsOf : List Entry → List Segment
+abbrev pub segmentsOf : List Entry → List Segment
 segmentsOf [] = []
 segmentsOf (e ∷ l) = segmentOf e ∷ segmentsOf l
 
-unfoldable pub indicesOf : List Entry → List ℕ
+abbrev pub indicesOf : List Entry → List ℕ
 indicesOf [] = []
 indicesOf (held k w ∷ l) = k ∷ indicesOf l
 indicesOf (ones w ∷ l) = indicesOf l

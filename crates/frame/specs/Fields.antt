@@ -57,11 +57,11 @@ scatter (k ∷ ks) [] f = f
 scatter (k ∷ ks) (v ∷ vs) f = scatter ks vs (set f k v)
 
 -- a number for each field of the record: those that stand before the details, and 0 for every other
-unfoldable pub beforeDetails : Body → (reference pattern identification update : ℕ) → List ℕ
+abbrev pub beforeDetails : Body → (reference pattern identification update : ℕ) → List ℕ
 beforeDetails b x p i u = x ∷ p ∷ i ∷ ownUpdate b u ∷ replicate (fieldCount - 4) 0
 
 -- and with the numbers us for the fields that the body holds
-unfoldable pub inFields : Body → (reference pattern identification update : ℕ) → List ℕ → List ℕ
+abbrev pub inFields : Body → (reference pattern identification update : ℕ) → List ℕ → List ℕ
 inFields b x p i u us = scatter (indices b) us (beforeDetails b x p i u)
 
 -- how many bits each field has in a body; 0 where the identification, page and kind do not leave it free
