@@ -7,7 +7,7 @@ use Prim.Native.Nat.{ℕ}
 use lib.ListN.{length}
 use borrow.Author.Tests.{eq-eqb, ne-eqb}
 use Rattle.bits.specs.Bits.{digit}
-use Rattle.frame.specs.Fields.{fields}
+use Rattle.frame.specs.Fields.{fieldCount, fields, recordFrom}
 use Rattle.frame.specs.Read.{readOf}
 use Rattle.frame.specs.Area.{warnedIn}
 use Rattle.frame.proofs.Promises.{demand2}
@@ -16,33 +16,33 @@ use Rattle.frame.specs.declared.Damage.{Damage}
 use Rattle.frame.specs.declared.Reading.{Reading}
 use Rattle.frame.specs.declared.Reading.the-variants.{Accepted, Refused}
 use Rattle.abi.specs.Status.{statusOf}
-use Rattle.abi_frame.specs.Frame.{recordFrom, frameReadStatus, frameReadRecord, warnedStatus}
+use Rattle.abi_frame.specs.Frame.{frameReadStatus, frameReadRecord, warnedStatus}
 
 -- ---- reading: the status n and the buffer t
 
 module _ (f s : List ℕ) {n : ℕ} {t : List ℕ} where
-  pub read-wrong : length s ≢ 18 → n ≡ statusOf 1 0 → t ≡ s → (n ≡ frameReadStatus f s) × (t ≡ frameReadRecord f s)
+  pub read-wrong : length s ≢ fieldCount → n ≡ statusOf 1 0 → t ≡ s → (n ≡ frameReadStatus f s) × (t ≡ frameReadRecord f s)
   unfolding frameReadStatus frameReadRecord
-  read-wrong h e p = let z = ne-eqb (length s) 18 h in (rw z e, rw z p)
+  read-wrong h e p = let z = ne-eqb (length s) fieldCount h in (rw z e, rw z p)
 
-  pub read-accepted : {r : Record} {d : Damage} → length s ≡ 18 → readOf f ≡ Accepted r d → n ≡ statusOf 0 (d .repaired) → t ≡ fields r
+  pub read-accepted : {r : Record} {d : Damage} → length s ≡ fieldCount → readOf f ≡ Accepted r d → n ≡ statusOf 0 (d .repaired) → t ≡ fields r
       → (n ≡ frameReadStatus f s) × (t ≡ frameReadRecord f s)
   unfolding frameReadStatus frameReadRecord
-  read-accepted l e p q = let z = eq-eqb (length s) 18 l in (rw (z, e) p, rw (z, e) q)
+  read-accepted l e p q = let z = eq-eqb (length s) fieldCount l in (rw (z, e) p, rw (z, e) q)
 
-  pub read-refused : {m : ℕ} → length s ≡ 18 → readOf f ≡ Refused m → n ≡ statusOf m 0 → t ≡ s → (n ≡ frameReadStatus f s) × (t ≡ frameReadRecord f s)
+  pub read-refused : {m : ℕ} → length s ≡ fieldCount → readOf f ≡ Refused m → n ≡ statusOf m 0 → t ≡ s → (n ≡ frameReadStatus f s) × (t ≡ frameReadRecord f s)
   unfolding frameReadStatus frameReadRecord
-  read-refused {m} l e p q = let z = eq-eqb (length s) 18 l in (rw (z, e) p, rw (z, e, ne-eqb m 0 (demand2 .judged-refused f m e .0)) q)
+  read-refused {m} l e p q = let z = eq-eqb (length s) fieldCount l in (rw (z, e) p, rw (z, e, ne-eqb m 0 (demand2 .judged-refused f m e .0)) q)
 
 -- ---- an area: the status n
 
 module _ (v : List ℕ) (k : ℕ) {n : ℕ} where
-  pub warned-wrong : length v ≢ 18 → n ≡ statusOf 1 0 → n ≡ warnedStatus v k
+  pub warned-wrong : length v ≢ fieldCount → n ≡ statusOf 1 0 → n ≡ warnedStatus v k
   unfolding warnedStatus
-  warned-wrong h e = rw (ne-eqb (length v) 18 h) e
+  warned-wrong h e = rw (ne-eqb (length v) fieldCount h) e
 
   -- the answer a of the record r, which is b
-  pub warned-answered : {r : Record} {a b : Bool} → length v ≡ 18 → r ≡ recordFrom v → a ≡ warnedIn r k → a ≡ b → n ≡ statusOf 0 (digit b) → n ≡ warnedStatus v k
+  pub warned-answered : {r : Record} {a b : Bool} → length v ≡ fieldCount → r ≡ recordFrom v → a ≡ warnedIn r k → a ≡ b → n ≡ statusOf 0 (digit b) → n ≡ warnedStatus v k
   unfolding warnedStatus
   warned-answered l e p q f =
-      rw (eq-eqb (length v) 18 l) (f ∙ ap (λ (t : Bool). statusOf 0 (digit t)) (sym q ∙ p ∙ ap (λ (r : Record). warnedIn r k) e))
+      rw (eq-eqb (length v) fieldCount l) (f ∙ ap (λ (t : Bool). statusOf 0 (digit t)) (sym q ∙ p ∙ ap (λ (r : Record). warnedIn r k) e))

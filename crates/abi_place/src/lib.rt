@@ -1,22 +1,23 @@
 // Places over plain numbers and slices, as a C program can call them.
 ghost use mathlib.Core.Path.{_≡_};
 ghost use Rattle.abi_place.specs.Place.{reportStatus, reportPlace, deskStatus, deskFields};
+use frame::FIELDS;
 use place::Conversion;
 use place::Place;
 use report::Reported;
 
-// What a record of 18 fields reports: the case, and of a place its latitude, longitude and depth.
+// What a record reports: the case, and of a place its latitude, longitude and depth.
 pub fn report(values: &[u64], doubles: &mut [f64]) -> u32
     ensures status { λ r. ⌜ r ≡ reportStatus (now (values .entry)) (now (doubles .entry)) ⌝ }
     ensures doubles { λ _. ⌜ now (doubles .exit) ≡ reportPlace (now (values .entry)) (now (doubles .entry)) ⌝ }
 {
-    if values.len() != 18 {
+    if values.len() != FIELDS {
         return abi::status(1, 0);
     }
     if doubles.len() != 3 {
         return abi::status(1, 0);
     }
-    match report::report(abi_frame::record_from(values)) {
+    match report::report(frame_fields::record_of(values)) {
         Reported::Place {
             latitude,
             longitude,

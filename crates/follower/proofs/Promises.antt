@@ -10,7 +10,9 @@ use lib.Dec.{eqb}
 use borrow.Author.Tests.{eq-eqb, ne-eqb, lt-ltb}
 use Rattle.bits.specs.Refusal.{firstRefusal}
 use Rattle.frame.specs.Identification.{classOf, isUndefined}
-use Rattle.frame.specs.Fields.{fieldWidths}
+use Rattle.bits.specs.Segment.{freeWidths}
+use Rattle.frame.specs.Body.{row, layout}
+use Rattle.frame.specs.Fields.{scatter, fieldWidths}
 use Rattle.frame.specs.Read.{readOf, readingNumber}
 use Rattle.frame.specs.Write.{Legal, recordRefusal, frameOf}
 use Rattle.frame.specs.declared.Class.{Class}
@@ -173,12 +175,12 @@ some-by i k u legal c e =
     }
 
 some : (k : Kind) (u : ℕ) → u < 4 → Some k u
-unfolding announcing recordRefusal firstRefusal classOf fieldWidths kindOf
+unfolding announcing recordRefusal firstRefusal classOf row layout scatter fieldWidths freeWidths kindOf
 some Real u h = some-by 0 Real u (rw (lt-ltb u 4 h)) refl refl
 some Test u h = some-by 2 Test u (rw (lt-ltb u 4 h)) refl refl
 
 silence-some : SomeSilence
-unfolding announcing recordRefusal firstRefusal classOf fieldWidths
+unfolding announcing recordRefusal firstRefusal classOf row layout scatter fieldWidths freeWidths
 silence-some =
     record {
       frame = frameOf (announcing 7 0);

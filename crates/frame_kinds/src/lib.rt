@@ -1,11 +1,13 @@
-// What an identification announces, and which body the details have.
+// What an identification announces, which body the details have, and which areas a record warns.
 ghost use mathlib.Core.Path.{_≡_};
 ghost use Rattle.frame.specs.Pattern.{patternWord, patternOf};
 ghost use Rattle.frame.specs.Identification.{classOf, flagsWrong, isUndefined};
 ghost use Rattle.frame.specs.Body.{bodyOf};
 ghost use Rattle.frame.specs.Fields.{overLimit};
+ghost use Rattle.frame.specs.Area.{warnedIn};
 use frame::Body;
 use frame::Class;
+use frame::Record;
 
 // The bits B1 to B16 of a pattern.
 pub fn pattern_word(pattern: u64) -> u64
@@ -101,4 +103,20 @@ pub fn over_limit(body: Body, latitude: u64, longitude: u64) -> bool
         Body::CancelPage => false,
         Body::NoInformation => false,
     }
+}
+
+// Area k of a record is warned: 0 means warned.
+pub fn warned(message: Record, area: u64) -> bool
+    ensures { λ r. ⌜ r ≡ warnedIn message area ⌝ }
+{
+    if 3 < message.identification {
+        return false;
+    }
+    if message.page != 0 {
+        return false;
+    }
+    if 55 < area {
+        return false;
+    }
+    message.areas / bits::pow2(55 - area as usize) % 2 == 0
 }

@@ -17,7 +17,6 @@ use Rattle.dsc.proofs.Answers.{length-protected, length-wordBytes, bits-wordByt
 use Rattle.dsc.proofs.Decoding.{Nearest, one, none, nearest}
 use Rattle.dsc.proofs.Word.{length-word}
 use Rattle.frame.specs.Pattern.{patternWord, patternOf}
-use Rattle.frame.specs.Fields.{recordOf}
 use Rattle.frame.specs.Read.{recordIn, frameRefusal, readOf, cleanOf}
 use Rattle.frame_reader.specs.Examined.{examinedOf}
 use Rattle.frame.specs.Read.{cleanedOf}
@@ -28,23 +27,8 @@ use Rattle.frame.specs.declared.Damage.{Damage}
 use Rattle.frame_reader.specs.declared.Examined.{Examined}
 use Rattle.frame.specs.declared.Cleaned.{Cleaned}
 use Rattle.frame.specs.declared.Reading.the-variants.{Accepted, Refused}
+use Rattle.frame.proofs.Bodies.{taken}
 use Rattle.frame_reader.proofs.ReadingExamined.{read-accepted, read-refused}
-
--- ---- the reference and the pattern of a record that was read
-
-reference-in : (b : Body) (x p i u : ℕ) (vs : List ℕ) → recordOf b x p i u vs .reference ≡ x
-unfolding recordOf
-reference-in AreaPage x p i u vs = refl
-reference-in PlacePage x p i u vs = refl
-reference-in CancelPage x p i u vs = refl
-reference-in NoInformation x p i u vs = refl
-
-pattern-in : (b : Body) (x p i u : ℕ) (vs : List ℕ) → recordOf b x p i u vs .pattern ≡ p
-unfolding recordOf
-pattern-in AreaPage x p i u vs = refl
-pattern-in PlacePage x p i u vs = refl
-pattern-in CancelPage x p i u vs = refl
-pattern-in NoInformation x p i u vs = refl
 
 -- ---- 17 bits put in front
 
@@ -86,8 +70,8 @@ module _ (f : List ℕ) (e : frameRefusal f ≡ 0) where
       → putOf (putOf (repairOf f .word) 0 1 (r .reference)) 1 16 (patternWord (r .pattern)) ≡ cleanOf f
   unfolding cleanOf
   cleaned-bytes r er =
-      let a : r .reference ≡ fieldAt f 0 1 = ap (λ (k : Record). k .reference) er ∙ reference-in _ _ _ _ _ _ in
-      let b : r .pattern ≡ patternOf (fieldAt f 1 16) = ap (λ (k : Record). k .pattern) er ∙ pattern-in _ _ _ _ _ _ in
+      let a : r .reference ≡ fieldAt f 0 1 = ap (λ (k : Record). k .reference) er ∙ taken _ _ _ _ _ _ .reference in
+      let b : r .pattern ≡ patternOf (fieldAt f 1 16) = ap (λ (k : Record). k .pattern) er ∙ taken _ _ _ _ _ _ .pattern in
       put-front (repairOf f .word) (r .reference) (patternWord (r .pattern)) word-length
       ∙ rw (a, b, after-front)
 

@@ -17,13 +17,14 @@ use Rattle.crc.specs.Crc.{crc10Of}
 use Rattle.frame.specs.Pattern.{patternOf}
 use Rattle.frame.specs.Identification.{classOf, flagsWrong, isUndefined}
 use Rattle.frame.specs.Body.{bodyOf, layout}
-use Rattle.frame.specs.Fields.{overLimit, recordOf}
+use Rattle.frame.specs.Fields.{overLimit}
 use Rattle.frame.specs.Read.{classIn, bodyIn, detailsIn, recordIn, beforeRepair, afterRepair}
-use Rattle.frame_reader.specs.Examined.{detailsOf, wordDetails, Tells}
+use Rattle.frame_reader.specs.Examined.{wordDetails, Tells}
+use Rattle.frame_fields.specs.Table.{detailsOf}
 use Rattle.frame.specs.declared.Class.{Class}
 use Rattle.frame.specs.declared.Body.{Body}
-use Rattle.frame.specs.declared.Body.the-variants.{AreaPage, PlacePage, CancelPage, NoInformation}
-use Rattle.frame_reader.specs.declared.Details.{Details}
+use Rattle.frame_fields.specs.declared.Details.{Details}
+use Rattle.frame.proofs.Bodies.{taken}
 
 -- a field that lies in 26 bytes
 pub got : (s : List ℕ) (k w n : ℕ) → length s ≡ 26 → within 26 k w ≡ true → n ≡ getOf s k w → n ≡ fieldAt s k w
@@ -86,20 +87,6 @@ module _ (c : List ℕ) (h : length c ≡ 26) where
 
 -- ---- what the tests ask of the details
 
-latitude-same : (b : Body) (x p i u : ℕ) (vs : List ℕ) → recordOf b x p i u vs .latitude ≡ recordOf b 0 0 i u vs .latitude
-unfolding recordOf
-latitude-same AreaPage x p i u vs = refl
-latitude-same PlacePage x p i u vs = refl
-latitude-same CancelPage x p i u vs = refl
-latitude-same NoInformation x p i u vs = refl
-
-longitude-same : (b : Body) (x p i u : ℕ) (vs : List ℕ) → recordOf b x p i u vs .longitude ≡ recordOf b 0 0 i u vs .longitude
-unfolding recordOf
-longitude-same AreaPage x p i u vs = refl
-longitude-same PlacePage x p i u vs = refl
-longitude-same CancelPage x p i u vs = refl
-longitude-same NoInformation x p i u vs = refl
-
 pub contents-in : (c : List ℕ) (d : Details) (x p : ℕ) → d ≡ wordDetails x p c → d .contents ≡ recordIn x p c
 unfolding detailsOf
 contents-in c d x p e = ap (λ (k : Details). k .contents) e
@@ -109,8 +96,8 @@ unfolding detailsOf
 tells c d x p e =
     record {
       fixed = ap (λ (k : Details). k .holds) e;
-      latitude = ap (λ (k : Details). k .contents .latitude) e ∙ latitude-same (bodyIn c) x p _ _ _;
-      longitude = ap (λ (k : Details). k .contents .longitude) e ∙ longitude-same (bodyIn c) x p _ _ _;
+      latitude = ap (λ (k : Details). k .contents .latitude) e ∙ taken (bodyIn c) x p _ _ _ .latitude;
+      longitude = ap (λ (k : Details). k .contents .longitude) e ∙ taken (bodyIn c) x p _ _ _ .longitude;
     }
 
 -- ---- after the repair, each test met or left

@@ -1,29 +1,22 @@
 -- A frame examined: what reading, judging and cleaning come from, so that a frame is repaired once. Assumes nothing.
 use mathlib.Core.Path.{_≡_}
-use mathlib.Core.Bool.{Bool, cond}
+use mathlib.Core.Bool.{cond}
 use mathlib.Core.List.{List}
 use Prim.Native.Nat.{ℕ}
 use lib.Dec.{eqb}
 use lib.ListN.{replicate}
 use Rattle.bits.specs.Field.{fieldAt}
-use Rattle.bits.specs.Layout.{unpack}
-use Rattle.bits.specs.Segment.{widths, fixedBitsHold}
+use Rattle.bits.specs.Segment.{fixedBitsHold}
 use Rattle.bits.specs.Refusal.{firstRefusal}
 use Rattle.dsc.specs.Repair.{repairOf}
 use Rattle.frame.specs.Body.{layout}
-use Rattle.frame.specs.Fields.{recordOf}
 use Rattle.frame.specs.Read.{identificationIn, bodyIn, detailsIn, recordIn, afterRepair, frameRefusal, readOf, cleanOf}
-use Rattle.frame.specs.declared.Body.{Body}
-use Rattle.frame_reader.specs.declared.Details.{Details}
+use Rattle.frame_fields.specs.Table.{detailsOf}
+use Rattle.frame_fields.specs.declared.Details.{Details}
 use Rattle.frame_reader.specs.declared.Examined.{Examined}
 use Rattle.frame.specs.declared.Record.{Record}
 use Rattle.frame.specs.declared.Reading.the-variants.{Accepted, Refused}
 use Rattle.frame.specs.declared.Cleaned.{Cleaned}
-
--- the details of a body, with the fields that stand elsewhere
-unfoldable pub detailsOf : Body → (reference pattern identification update : ℕ) → List Bool → Details
-detailsOf b x p i u bs =
-    record { holds = fixedBitsHold (layout b) bs; contents = recordOf b x p i u (unpack (widths (layout b)) bs) }
 
 -- the details that stand in the repaired frame c
 abbrev pub wordDetails : (reference pattern : ℕ) → List ℕ → Details

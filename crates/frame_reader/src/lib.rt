@@ -1,33 +1,22 @@
 // Reading a frame: the tests in their order, and the record.
 ghost use mathlib.Core.Path.{_≡_};
 ghost use mathlib.Core.Bool.{not};
-ghost use mathlib.Core.List.{[]};
 ghost use lib.Dec.{eqb};
 ghost use lib.ListN.{length, take, drop};
 ghost use Rattle.bits.specs.Bits.{bits};
 ghost use Rattle.bits.specs.Field.{fieldAt};
-ghost use Rattle.bits.specs.Layout.{unpack, Layout};
-ghost use Rattle.bits.specs.Segment.{segments, fixedBitsHold};
 ghost use Rattle.bits.specs.Refusal.{firstRefusal};
 ghost use Rattle.crc.specs.Crc.{crc10Of};
-ghost use Rattle.frame.specs.Fields.{recordOf};
 ghost use Rattle.frame.specs.Read.{bodyIn, beforeRepair, afterRepair, readOf, judgeOf};
-ghost use Rattle.frame.specs.Area.{warnedIn};
-ghost use Rattle.frame_reader.specs.Examined.{detailsOf, wordDetails, Tells, examinedRefused, wordExamined, examinedOf};
+ghost use Rattle.frame_reader.specs.Examined.{wordDetails, Tells, examinedRefused, wordExamined, examinedOf};
 ghost use Rattle.frame.specs.Read.{cleanedOf};
 use dsc::Outcome;
 use frame::Body;
 use frame::Cleaned;
 use frame::Damage;
 use frame::Reading;
-use frame::Record;
 use frame::Verdict;
-
-// What the details hold: whether the fixed bits are as they should be, and the record.
-pub struct Details {
-    pub holds: bool,
-    pub contents: Record,
-}
+use frame_fields::Details;
 
 // A frame examined: what is read, with the repaired word beside it, which is 0 on a refusal.
 pub struct Examined {
@@ -53,159 +42,6 @@ fn front_refusal(frame: &[u8]) -> u8
     0
 }
 
-// The four bodies. Kinds and widths are those of the segments of the body's layout; the details are 11 bytes, B24 to B111.
-
-// The values of a body's segments, and whether its fixed bits are as they should be. It requires what `bits::read_all` does, for the same reason.
-fn read_body(details: &[u8], kinds: &[u8], widths: &[usize], values: &mut [u64]) -> bool
-    requires { ⌜ Layout (now widths) (length (now details)) × ((length (now values) ≡ length (now widths)) × (length (now kinds) ≡ length (now widths))) ⌝ }
-    ensures holds { λ r. ⌜ r ≡ fixedBitsHold (segments (now (kinds .entry)) (now (widths .entry))) (bits (now (details .entry))) ⌝ }
-    ensures values { λ _. ⌜ now (values .exit) ≡ unpack (now (widths .entry)) (bits (now (details .entry))) ⌝ }
-{
-    bits::read_all(details, widths, values);
-    bits::fixed_hold(kinds, widths, values)
-}
-
-// The record with these fields, and 0 in every other: that of page 0 with no values.
-fn blank(reference: u64, pattern: u64, identification: u64, update: u64) -> Record
-    ensures { λ r. ⌜ r ≡ recordOf Body.AreaPage reference pattern identification update [] ⌝ }
-{
-    Record {
-        reference,
-        pattern,
-        identification,
-        update,
-        time: 0,
-        page: 0,
-        areas: 0,
-        total: 0,
-        item: 0,
-        number: 0,
-        kind: 0,
-        south: 0,
-        latitude: 0,
-        west: 0,
-        longitude: 0,
-        depth: 0,
-        occurred: 0,
-        broadcaster: 0,
-    }
-}
-
-// Page 0: the areas.
-fn area_page(
-    reference: u64,
-    pattern: u64,
-    identification: u64,
-    update: u64,
-    details: &[u8],
-) -> Details
-    requires { ⌜ length (now details) ≡ 11 ⌝ }
-    ensures { λ r. ⌜ r ≡ detailsOf Body.AreaPage reference pattern identification update (bits (now (details .entry))) ⌝ }
-{
-    let kinds: [u8; 3] = [0, 2, 0];
-    let widths: [usize; 3] = [31, 1, 56];
-    let mut v: [u64; 3] = [0; 3];
-    let holds = read_body(details, &kinds, &widths, &mut v);
-    let mut contents = blank(reference, pattern, identification, update);
-    contents.time = v[0];
-    contents.areas = v[2];
-    Details { holds, contents }
-}
-
-// Page 1, kind 0: the place.
-fn place_page(
-    reference: u64,
-    pattern: u64,
-    identification: u64,
-    update: u64,
-    details: &[u8],
-) -> Details
-    requires { ⌜ length (now details) ≡ 11 ⌝ }
-    ensures { λ r. ⌜ r ≡ detailsOf Body.PlacePage reference pattern identification update (bits (now (details .entry))) ⌝ }
-{
-    let kinds: [u8; 13] = [0, 1, 0, 0, 0, 2, 0, 0, 0, 0, 0, 0, 1];
-    let widths: [usize; 13] = [31, 1, 1, 1, 9, 1, 1, 10, 1, 11, 10, 10, 1];
-    let mut v: [u64; 13] = [0; 13];
-    let holds = read_body(details, &kinds, &widths, &mut v);
-    let mut contents = blank(reference, pattern, identification, update);
-    contents.time = v[0];
-    contents.page = 1;
-    contents.total = v[2];
-    contents.item = v[3];
-    contents.number = v[4];
-    contents.south = v[6];
-    contents.latitude = v[7];
-    contents.west = v[8];
-    contents.longitude = v[9];
-    contents.depth = v[10];
-    contents.occurred = v[11];
-    Details { holds, contents }
-}
-
-// Page 1, kind 1: a cancellation.
-fn cancel_page(
-    reference: u64,
-    pattern: u64,
-    identification: u64,
-    update: u64,
-    details: &[u8],
-) -> Details
-    requires { ⌜ length (now details) ≡ 11 ⌝ }
-    ensures { λ r. ⌜ r ≡ detailsOf Body.CancelPage reference pattern identification update (bits (now (details .entry))) ⌝ }
-{
-    let kinds: [u8; 8] = [0, 1, 0, 0, 0, 1, 1, 1];
-    let widths: [usize; 8] = [31, 1, 1, 1, 9, 1, 43, 1];
-    let mut v: [u64; 8] = [0; 8];
-    let holds = read_body(details, &kinds, &widths, &mut v);
-    let mut contents = blank(reference, pattern, identification, update);
-    contents.time = v[0];
-    contents.page = 1;
-    contents.total = v[2];
-    contents.item = v[3];
-    contents.number = v[4];
-    contents.kind = 1;
-    Details { holds, contents }
-}
-
-// No information: the broadcaster's number.
-fn no_information(
-    reference: u64,
-    pattern: u64,
-    identification: u64,
-    update: u64,
-    details: &[u8],
-) -> Details
-    requires { ⌜ length (now details) ≡ 11 ⌝ }
-    ensures { λ r. ⌜ r ≡ detailsOf Body.NoInformation reference pattern identification update (bits (now (details .entry))) ⌝ }
-{
-    let kinds: [u8; 3] = [1, 0, 1];
-    let widths: [usize; 3] = [32, 11, 45];
-    let mut v: [u64; 3] = [0; 3];
-    let holds = read_body(details, &kinds, &widths, &mut v);
-    let mut contents = blank(reference, pattern, identification, 0);
-    contents.broadcaster = v[1];
-    Details { holds, contents }
-}
-
-fn body_details(
-    body: Body,
-    reference: u64,
-    pattern: u64,
-    identification: u64,
-    update: u64,
-    details: &[u8],
-) -> Details
-    requires { ⌜ length (now details) ≡ 11 ⌝ }
-    ensures { λ r. ⌜ r ≡ detailsOf body reference pattern identification update (bits (now (details .entry))) ⌝ }
-{
-    match body {
-        Body::AreaPage => area_page(reference, pattern, identification, update, details),
-        Body::PlacePage => place_page(reference, pattern, identification, update, details),
-        Body::CancelPage => cancel_page(reference, pattern, identification, update, details),
-        Body::NoInformation => no_information(reference, pattern, identification, update, details),
-    }
-}
-
 // The body of a repaired frame.
 fn word_body(word: &[u8]) -> Body
     requires { ⌜ length (now word) ≡ 26 ⌝ }
@@ -225,7 +61,7 @@ fn word_details(reference: u64, pattern: u64, word: &[u8]) -> Details
     let body = word_body(word);
     let identification = bits::get(word, 21, 3);
     let update = bits::get(word, 19, 2);
-    body_details(
+    frame_fields::read_details(
         body,
         reference,
         pattern,
@@ -346,22 +182,6 @@ pub fn judge(frame: &[u8]) -> Verdict
             repaired: 0,
         },
     }
-}
-
-// Area k of a record is warned: 0 means warned.
-pub fn warned(message: Record, area: u64) -> bool
-    ensures { λ r. ⌜ r ≡ warnedIn message area ⌝ }
-{
-    if 3 < message.identification {
-        return false;
-    }
-    if message.page != 0 {
-        return false;
-    }
-    if 55 < area {
-        return false;
-    }
-    message.areas / bits::pow2(55 - area as usize) % 2 == 0
 }
 
 // The frame with its damage repaired.

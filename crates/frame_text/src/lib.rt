@@ -1,6 +1,7 @@
-// What the box answers to frames, as lines of text for people and for tests. Of a frame read: `1 accepted 0` and the record's 18 fields, or `2 refused 4`.
+// What the box answers to frames, as lines of text for people and for tests. Of a frame read: `1 accepted 0` and the record's fields, or `2 refused 4`.
 // Of a frame repaired: `1 repaired 0` and the repaired word, or `2 refused 4`. What the lines tell of is proved in `frame_reader` and `dsc_codec`.
 use dsc::Outcome;
+use frame::FIELDS;
 use frame::Reading;
 use frame::Record;
 use libc::STDIN_FILENO;
@@ -38,26 +39,12 @@ fn field(n: u64) {
     number(n);
 }
 
-// The 18 fields in their order.
-pub fn record(r: Record) {
-    field(r.reference);
-    field(r.pattern);
-    field(r.identification);
-    field(r.update);
-    field(r.time);
-    field(r.page);
-    field(r.areas);
-    field(r.total);
-    field(r.item);
-    field(r.number);
-    field(r.kind);
-    field(r.south);
-    field(r.latitude);
-    field(r.west);
-    field(r.longitude);
-    field(r.depth);
-    field(r.occurred);
-    field(r.broadcaster);
+// The fields in their order.
+fn record(r: Record) {
+    let v = frame_fields::fields_of(r);
+    for k in 0..FIELDS {
+        field(v[k]);
+    }
 }
 
 // What a refusal's line says.
@@ -120,29 +107,5 @@ pub fn run(asked: Question) {
     let mut n: u64 = 0;
     while n < 999999 && turn(asked, n + 1) {
         n += 1;
-    }
-}
-
-// The record of 18 fields in their order.
-pub fn record_of(v: &[u64; 18]) -> Record {
-    Record {
-        reference: v[0],
-        pattern: v[1],
-        identification: v[2],
-        update: v[3],
-        time: v[4],
-        page: v[5],
-        areas: v[6],
-        total: v[7],
-        item: v[8],
-        number: v[9],
-        kind: v[10],
-        south: v[11],
-        latitude: v[12],
-        west: v[13],
-        longitude: v[14],
-        depth: v[15],
-        occurred: v[16],
-        broadcaster: v[17],
     }
 }

@@ -4,56 +4,15 @@ ghost use mathlib.Core.List.{_++_};
 ghost use Prim.Native.Nat.{_≤_};
 ghost use lib.ListN.{length, drop};
 ghost use Rattle.bits.specs.Bits.{bits};
-ghost use Rattle.bits.specs.Segment.{widths};
-ghost use Rattle.frame.specs.declared.Body.the-variants.{AreaPage, PlacePage, CancelPage, NoInformation};
 ghost use Rattle.frame.specs.Identification.{startEndOf, updateOf};
-ghost use Rattle.frame.specs.Body.{layout, bodyValues};
-ghost use Rattle.frame.specs.Fields.{fields, fieldWidths, recordBody, tooWide};
-ghost use Rattle.frame_writer.specs.WriterParts.{frontValues, frontBits, detailBits, thirteen};
+ghost use Rattle.frame.specs.Fields.{recordBody, tooWide};
+ghost use Rattle.frame_writer.specs.WriterParts.{frontValues, frontBits, detailBits};
 ghost use Rattle.frame.specs.Write.{recordRefusal, frameOf, writeNumber, writeOf};
 use frame::Body;
 use frame::Class;
 use frame::Record;
 
 // ---- the record's own refusals
-
-// The fields, in the order of the record.
-pub fn field_values(contents: Record) -> [u64; 18]
-    ensures { λ r. ⌜ r ≡ fields contents ⌝ }
-{
-    [
-        contents.reference,
-        contents.pattern,
-        contents.identification,
-        contents.update,
-        contents.time,
-        contents.page,
-        contents.areas,
-        contents.total,
-        contents.item,
-        contents.number,
-        contents.kind,
-        contents.south,
-        contents.latitude,
-        contents.west,
-        contents.longitude,
-        contents.depth,
-        contents.occurred,
-        contents.broadcaster,
-    ]
-}
-
-// How many bits each field has in a body: 0 where it is not left free.
-fn field_widths(body: Body) -> [usize; 18]
-    ensures { λ r. ⌜ r ≡ fieldWidths body ⌝ }
-{
-    match body {
-        Body::AreaPage => [1, 1, 3, 2, 31, 1, 56, 0, 0, 0, 0, 0, 0, 0, 0, 0, 0, 0],
-        Body::PlacePage => [1, 1, 3, 2, 31, 1, 0, 1, 1, 9, 1, 1, 10, 1, 11, 10, 10, 0],
-        Body::CancelPage => [1, 1, 3, 2, 31, 1, 0, 1, 1, 9, 1, 0, 0, 0, 0, 0, 0, 0],
-        Body::NoInformation => [1, 1, 3, 0, 0, 0, 0, 0, 0, 0, 0, 0, 0, 0, 0, 0, 0, 11],
-    }
-}
 
 fn record_body(contents: Record) -> Body
     ensures { λ r. ⌜ r ≡ recordBody contents ⌝ }
@@ -69,8 +28,8 @@ fn record_body(contents: Record) -> Body
 fn too_wide(contents: Record) -> bool
     ensures { λ r. ⌜ r ≡ tooWide contents ⌝ }
 {
-    let ws = field_widths(record_body(contents));
-    let vs = field_values(contents);
+    let ws = frame_fields::field_widths(record_body(contents));
+    let vs = frame_fields::fields_of(contents);
     !bits::fits_all(&ws, &vs)
 }
 
@@ -136,93 +95,12 @@ fn write_front(contents: Record, frame: &mut [u8])
     bits::write_all(frame, &ws, &vs);
 }
 
-// The widths of a body's segments. A body with fewer than 13 has segments of no bits after them.
-fn segment_widths(body: Body) -> [usize; 13]
-    ensures { λ r. ⌜ r ≡ thirteen (widths (layout body)) ⌝ }
-{
-    match body {
-        Body::AreaPage => [31, 1, 56, 0, 0, 0, 0, 0, 0, 0, 0, 0, 0],
-        Body::PlacePage => [31, 1, 1, 1, 9, 1, 1, 10, 1, 11, 10, 10, 1],
-        Body::CancelPage => [31, 1, 1, 1, 9, 1, 43, 1, 0, 0, 0, 0, 0],
-        Body::NoInformation => [32, 11, 45, 0, 0, 0, 0, 0, 0, 0, 0, 0, 0],
-    }
-}
-
-fn area_values(contents: Record) -> [u64; 13]
-    ensures { λ r. ⌜ r ≡ thirteen (bodyValues AreaPage contents) ⌝ }
-{
-    let mut v = [0; 13];
-    v[0] = contents.time;
-    v[2] = contents.areas;
-    v
-}
-
-fn place_values(contents: Record) -> [u64; 13]
-    ensures { λ r. ⌜ r ≡ thirteen (bodyValues PlacePage contents) ⌝ }
-{
-    [
-        contents.time,
-        1,
-        contents.total,
-        contents.item,
-        contents.number,
-        0,
-        contents.south,
-        contents.latitude,
-        contents.west,
-        contents.longitude,
-        contents.depth,
-        contents.occurred,
-        1,
-    ]
-}
-
-fn cancel_values(contents: Record) -> [u64; 13]
-    ensures { λ r. ⌜ r ≡ thirteen (bodyValues CancelPage contents) ⌝ }
-{
-    let mut v = [0; 13];
-    v[0] = contents.time;
-    v[1] = 1;
-    v[2] = contents.total;
-    v[3] = contents.item;
-    v[4] = contents.number;
-    v[5] = 1;
-    v[6] = 0x7FF_FFFF_FFFF;
-    v[7] = 1;
-    v
-}
-
-fn no_information_values(contents: Record) -> [u64; 13]
-    ensures { λ r. ⌜ r ≡ thirteen (bodyValues NoInformation contents) ⌝ }
-{
-    let mut v = [0; 13];
-    v[0] = 0xFFFF_FFFF;
-    v[1] = contents.broadcaster;
-    v[2] = 0x1FFF_FFFF_FFFF;
-    v
-}
-
-// What a record puts into the segments of its body.
-fn segment_values(body: Body, contents: Record) -> [u64; 13]
-    ensures { λ r. ⌜ r ≡ thirteen (bodyValues body contents) ⌝ }
-{
-    match body {
-        Body::AreaPage => area_values(contents),
-        Body::PlacePage => place_values(contents),
-        Body::CancelPage => cancel_values(contents),
-        Body::NoInformation => no_information_values(contents),
-    }
-}
-
 // The details, in the bytes from B24 on; the bits after them stay.
 fn write_details(contents: Record, part: &mut [u8])
     requires { ⌜ 11 ≤ length (now part) ⌝ }
     ensures { λ _. ⌜ bits (now (part .exit)) ≡ detailBits contents ++ drop 88 (bits (now (part .entry))) ⌝ }
 {
-    let body = record_body(contents);
-    let ws = segment_widths(body);
-    let vs = segment_values(body, contents);
-    bits::write_all(part, &ws, &vs);
+    frame_fields::write_details(record_body(contents), contents, part);
 }
 
 // The frame of a record, whatever stood in the bytes before. The filler comes first, so that each later step

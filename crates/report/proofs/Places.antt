@@ -9,12 +9,15 @@ use lib.Ieee.{Float}
 use borrow.Author.Tests.{eqb-true, eqb-false, ltb-false, le-ltb}
 use Rattle.bits.specs.Layout.{Fit}
 use Rattle.bits.proofs.Refusal.{neither}
-use Rattle.frame.specs.Fields.{fields, fieldWidths, recordBody, overLimit}
+use Rattle.bits.specs.Segment.{freeWidths}
+use Rattle.frame.specs.Body.{row, layout}
+use Rattle.frame.specs.Fields.{scatter, fields, fieldWidths, recordBody, overLimit}
 use Rattle.frame.specs.Write.{Legal, recordRefusal}
 use Rattle.frame.specs.declared.Body.{Body}
 use Rattle.frame.specs.declared.Body.the-variants.{AreaPage, PlacePage, CancelPage, NoInformation}
 use Rattle.frame.specs.declared.Record.{Record}
-use Rattle.frame.proofs.Bodies.{legal-sound, sound-legal, fit-at}
+use Rattle.frame.proofs.Indices.{fit-at}
+use Rattle.frame.proofs.Bodies.{legal-sound, sound-legal}
 use Rattle.place.specs.Degrees.{placeOf}
 use Rattle.place.specs.Desk.{Allowed}
 use Rattle.place.specs.declared.Place.{Place}
@@ -43,7 +46,7 @@ module _ (r : Record) (l : Legal r) (b : recordBody r ≡ PlacePage) where
 
   -- they are allowed
   pub allowed : Allowed (placeFields r)
-  unfolding fieldWidths
+  unfolding row layout scatter fieldWidths freeWidths
   allowed =
       let at = fit-at (fieldWidths PlacePage) (fields r) fit in
       let south : r .south < 2 = at 11 in
@@ -58,7 +61,7 @@ module _ (r : Record) (l : Legal r) (b : recordBody r ≡ PlacePage) where
     with-body = b
 
     with-fit : Fit (fieldWidths PlacePage) (fields (withPlace r f))
-    unfolding fieldWidths withPlace
+    unfolding row layout scatter fieldWidths freeWidths withPlace
     with-fit =
         let at = fit-at (fieldWidths PlacePage) (fields r) fit in
         let south : f .south < 2 = omega (arith, a .south) in

@@ -17,8 +17,8 @@ read-requires c κs = search needs
 enum-known-message : tie.Need-enum-known-message
 enum-known-message c = search needs
 
-field-values-requires : tie.Need-field-values-requires
-field-values-requires c κs = search needs
+fields-of-requires : tie.Need-fields-of-requires
+fields-of-requires c κs = search needs
 
 slice-aggregate-copy : tie.Need-slice-aggregate-copy
 slice-aggregate-copy c = search needs
@@ -42,7 +42,7 @@ returns-2 : tie.Need-returns-2
 returns-2 c =
     let read = c .before .before .before .before .before .before .before .before .before .before in
     read-accepted _ _ (read .before .if1 .left) (sym (read .read .ensures) ∙ c .before .before .before .before .before .before .before .before .message .given .1) (c .status2 .ensures)
-    (c .before .before .before .copy .ensures ∙ c .before .before .before .before .before .before .field-values .ensures)
+    (c .before .before .before .copy .ensures ∙ c .before .before .before .before .before .before .fields-of .ensures)
 
 returns-3 : tie.Need-returns-3
 returns-3 c =
@@ -57,7 +57,7 @@ frame-read-spec =
     returns
     read-requires
     enum-known-message
-    field-values-requires
+    fields-of-requires
     slice-aggregate-copy
     copy-requires
     status-requires-2

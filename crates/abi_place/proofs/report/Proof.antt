@@ -20,8 +20,8 @@ status-requires-2 c κs = search needs
 returns-2 : tie.Need-returns-2
 returns-2 c = place-wrong _ _ (c .before .before .if1 .left) (c .before .if2 .taken) (c .status2 .ensures) refl
 
-record-from-requires : tie.Need-record-from-requires
-record-from-requires c κs = search needs
+record-of-requires : tie.Need-record-of-requires
+record-of-requires c κs = search needs
 
 report-requires : tie.Need-report-requires
 report-requires c κs = search needs
@@ -69,19 +69,19 @@ same-length : tie.Need-same-length
 same-length c = search needs
 
 returns-3 : tie.Need-returns-3
-returns-3 c = reported _ _ _ _ _ (c .before .before .before .before .before .before .before .if1 .left) (c .before .before .before .before .before .before .if2 .left) (c .before .before .before .before .before .record-from .ensures) (c .before .before .before .before .report .ensures) (c .before .before .latitude .given .1) (c .status3 .ensures) (three-stored (now (c .before .before .before .before .before .before .before .before .before .before .args .doubles)) _ _ _ (c .before .before .before .before .before .before .if2 .left))
+returns-3 c = reported _ _ _ _ _ (c .before .before .before .before .before .before .before .if1 .left) (c .before .before .before .before .before .before .if2 .left) (c .before .before .before .before .before .record-of .ensures) (c .before .before .before .before .report .ensures) (c .before .before .latitude .given .1) (c .status3 .ensures) (three-stored (now (c .before .before .before .before .before .before .before .before .before .before .args .doubles)) _ _ _ (c .before .before .before .before .before .before .if2 .left))
 
 returns-4 : tie.Need-returns-4
-returns-4 c = reported _ _ _ _ _ (c .before .before .before .before .before .before .if1 .left) (c .before .before .before .before .before .if2 .left) (c .before .before .before .before .record-from .ensures) (c .before .before .before .report .ensures) (c .before .enum-told .given .1) (c .status4 .ensures) refl
+returns-4 c = reported _ _ _ _ _ (c .before .before .before .before .before .before .if1 .left) (c .before .before .before .before .before .if2 .left) (c .before .before .before .before .record-of .ensures) (c .before .before .before .report .ensures) (c .before .enum-told .given .1) (c .status4 .ensures) refl
 
 returns-5 : tie.Need-returns-5
-returns-5 c = reported _ _ _ _ _ (c .before .before .before .before .before .before .if1 .left) (c .before .before .before .before .before .if2 .left) (c .before .before .before .before .record-from .ensures) (c .before .before .before .report .ensures) (c .before .enum-told2 .given .1) (c .status5 .ensures) refl
+returns-5 c = reported _ _ _ _ _ (c .before .before .before .before .before .before .if1 .left) (c .before .before .before .before .before .if2 .left) (c .before .before .before .before .record-of .ensures) (c .before .before .before .report .ensures) (c .before .enum-told2 .given .1) (c .status5 .ensures) refl
 
 returns-6 : tie.Need-returns-6
-returns-6 c = reported _ _ _ _ _ (c .before .before .before .before .before .before .if1 .left) (c .before .before .before .before .before .if2 .left) (c .before .before .before .before .record-from .ensures) (c .before .before .before .report .ensures) (c .before .enum-told3 .given .1) (c .status6 .ensures) refl
+returns-6 c = reported _ _ _ _ _ (c .before .before .before .before .before .before .if1 .left) (c .before .before .before .before .before .if2 .left) (c .before .before .before .before .record-of .ensures) (c .before .before .before .report .ensures) (c .before .enum-told3 .given .1) (c .status6 .ensures) refl
 
 returns-7 : tie.Need-returns-7
-returns-7 c = reported _ _ _ _ _ (c .before .before .before .before .before .before .before .if1 .left) (c .before .before .before .before .before .before .if2 .left) (c .before .before .before .before .before .record-from .ensures) (c .before .before .before .before .report .ensures) (c .before .before .number .given .1) (c .status7 .ensures) refl
+returns-7 c = reported _ _ _ _ _ (c .before .before .before .before .before .before .before .if1 .left) (c .before .before .before .before .before .before .if2 .left) (c .before .before .before .before .before .record-of .ensures) (c .before .before .before .before .report .ensures) (c .before .before .number .given .1) (c .status7 .ensures) refl
 
 pub report-spec : {M : Type 1} → statement M
 report-spec =
@@ -91,7 +91,7 @@ report-spec =
     returns
     status-requires-2
     returns-2
-    record-from-requires
+    record-of-requires
     report-requires
     enum-known-latitude
     slice-write-doubles
