@@ -7,13 +7,13 @@ use mathlib.Core.List.{List, _++_, append-assoc}
 use Prim.Native.Nat.{ℕ, suc, _+_, _-_, _*_, _/_, _%_, _^_, _≤_, _<_}
 use native.Mathlib.Nat.{mod-eq-of-lt, div-one, mul-assoc, add-mul}
 use native.Mathlib.Omega.{arith}
-use lib.Bits.{bitOr, or-shifted}
+use lib.Bits.{bitOr, or-shifted, or-zero-l}
 use lib.Dec.{leb}
 use borrow.Author.Tests.{le-leb, lt-leb, leb-true}
-use lib.Pow.{pow-add, shl-lt, high, low}
+use lib.Pow.{pow-add, shl-lt, shl-exact, high, low}
 use lib.ListN.{length, getD, set, take, drop, length-append, length-take, length-drop, List·getD-append}
 use lib.Seq.{paste, take-at, drop-at, getD-append-add, length-take-le, getD-take, getD-drop, drop-drop, drop-cons, take-add, take-append-le, drop-append-le, length-paste-head, length-paste, ext-getD, take-paste, drop-paste, take-all}
-use Rattle.bits.specs.Bits.{value, bitsOf, bits, bytes}
+use Rattle.bits.specs.Bits.{value, bitsOf, bits, bytes, Bytes}
 use Rattle.bits.specs.Field.{fieldAt, putBits, within, getOf, putOf}
 use Rattle.bits.proofs.Bits.{length-bitsOf, length-bits, length-bytes, bits-bytes, value-bitsOf, value-bitsOf-fit, value-append, value-lt, value-take-lt, value-inj, bitsOf-value, bitsOf-add, take-drop-bitsOf, bits-drop, bits-split, bits-set}
 
@@ -178,6 +178,34 @@ field-byte s q j m b v acc h hb lb ha hv =
     ∙ sym (add-mul (a * 2 ^ 8) b (2 ^ m))
     ∙ ap (_* 2 ^ m) (sym (field-add s (8 * q) (8 * j) 8 (omega arith) ∙ ap (a * 2 ^ 8 +_) one))
 
+-- ---- eight bytes as a machine word
+
+module _ (s : List ℕ) (q : ℕ) (room : q + 8 ≤ length s) (fit : Bytes s) where
+  -- one byte more, moved on by m bits
+  next-byte : (j m b acc : ℕ) → j < 8 → 8 + m ≤ 64 → b ≡ getD s (q + j) 0 → acc ≡ fieldAt s (8 * q) (8 * j) * 2 ^ (8 + m)
+      → bitOr acc (b * 2 ^ m % 2 ^ 64) ≡ fieldAt s (8 * q) (8 * j + 8) * 2 ^ m
+  next-byte j m b acc h hm eb ea =
+      let lb : b < 256 = omega (arith, fit (q + j)) in
+      field-byte s q j m b (b * 2 ^ m % 2 ^ 64) acc (omega arith) eb lb ea (shl-exact 8 m 64 lb hm)
+
+  -- all eight, in the shape that the code has
+  pub eight-bytes : (b₀ b₁ b₂ b₃ b₄ b₅ b₆ b₇ : ℕ) → b₀ ≡ getD s q 0 → b₁ ≡ getD s (q + 1) 0 → b₂ ≡ getD s (q + 2) 0 → b₃ ≡ getD s (q + 3) 0
+      → b₄ ≡ getD s (q + 4) 0 → b₅ ≡ getD s (q + 5) 0 → b₆ ≡ getD s (q + 6) 0 → b₇ ≡ getD s (q + 7) 0
+      → bitOr (bitOr (bitOr (bitOr (bitOr (bitOr (bitOr (b₀ * 2 ^ 56 % 2 ^ 64) (b₁ * 2 ^ 48 % 2 ^ 64)) (b₂ * 2 ^ 40 % 2 ^ 64)) (b₃ * 2 ^ 32 % 2 ^ 64)) (b₄ * 2 ^ 24 % 2 ^ 64)) (b₅ * 2 ^ 16 % 2 ^ 64)) (b₆ * 2 ^ 8 % 2 ^ 64)) b₇
+      ≡ fieldAt s (8 * q) 64
+  unfolding value
+  eight-bytes b₀ b₁ b₂ b₃ b₄ b₅ b₆ b₇ e₀ e₁ e₂ e₃ e₄ e₅ e₆ e₇ =
+      let a₁ = sym (or-zero-l (b₀ * 2 ^ 56 % 2 ^ 64)) ∙ next-byte 0 56 b₀ 0 (omega arith) (omega arith) (e₀ ∙ ap (λ n. getD s n 0) (let e : q ≡ q + 0 = omega arith in e)) refl in
+      let a₂ = next-byte 1 48 b₁ _ (omega arith) (omega arith) e₁ a₁ in
+      let a₃ = next-byte 2 40 b₂ _ (omega arith) (omega arith) e₂ a₂ in
+      let a₄ = next-byte 3 32 b₃ _ (omega arith) (omega arith) e₃ a₃ in
+      let a₅ = next-byte 4 24 b₄ _ (omega arith) (omega arith) e₄ a₄ in
+      let a₆ = next-byte 5 16 b₅ _ (omega arith) (omega arith) e₅ a₅ in
+      let a₇ = next-byte 6 8 b₆ _ (omega arith) (omega arith) e₆ a₆ in
+      field-byte s q 7 0 b₇ b₇ _ (omega arith) e₇ (omega (arith, fit (q + 7))) a₇ (omega arith) ∙ omega arith
+
+-- ---- fields replaced
+
 -- what stands between p and s replaced
 paste-between : (p m s x : List Bool) (k n : ℕ) → length p ≡ k → length m ≡ n → length x ≡ n → paste (p ++ (m ++ s)) k x n ≡ p ++ (x ++ s)
 paste-between p m s x k n lp lm lx =
@@ -251,3 +279,22 @@ pub putBits-add : (l : List Bool) (k w v i n : ℕ) → k + w ≤ length l → i
 putBits-add l k w v i n hl hi =
     paste-add l (bitsOf w v) (bitsOf n (v / 2 ^ (w - i - n))) k i n (omega arith) (rw length-bitsOf hi)
     (take-drop-bitsOf w v i n hi) (length-bitsOf n (v / 2 ^ (w - i - n)))
+
+-- ---- a field out of eight bytes
+
+pub field-of-eight : (s : List ℕ) (at w n : ℕ) → 0 < w → at % 8 + w < 64 → at / 8 + 8 ≤ length s → n ≡ fieldAt s (8 * (at / 8)) 64
+    → n / 2 ^ (64 - (at % 8 + w)) % 2 ^ w ≡ fieldAt s at w
+field-of-eight s at w n h e r en =
+    let q = at / 8 in
+    let o = at % 8 in
+    let t = 64 - (o + w) in
+    let all : _≡_ {A = ℕ} 64 (o + w + t) = omega arith in
+    let place : 8 * q + o ≡ at = omega arith in
+    ap (λ (m : ℕ). m / 2 ^ t % 2 ^ w) (en ∙ ap (fieldAt s (8 * q)) all)
+    ∙ sym (ap value (bits-of-field s (8 * q) o w t (omega arith)) ∙ value-bitsOf w (fieldAt s (8 * q) (o + w + t) / 2 ^ t))
+    ∙ ap (λ (m : ℕ). fieldAt s m w) place
+
+-- of no width
+pub field-none : (s : List ℕ) (at w : ℕ) → w ≡ 0 → 0 ≡ fieldAt s at w
+unfolding value
+field-none s at w e = ap (λ (n : ℕ). fieldAt s at n) (sym e)

@@ -64,9 +64,31 @@ fn write_part(s: &mut [u8], q: usize, r: usize, n: usize, v: u64)
     s[q] = (s[q] as u64 - old * weight + new * weight) as u8;
 }
 
+fn wide(x: u8) -> u64
+    ensures { λ r. ⌜ r ≡ x ⌝ }
+{
+    x as u64
+}
+
+// Eight bytes from byte `at` on as a number, the first byte highest. In this shape the compiler makes one load of them.
+// It requires that they are there, so that code which has tested a length pays for no other test.
+pub fn eight(s: &[u8], at: usize) -> u64
+    requires { ⌜ at + 8 ≤ length (now s) ⌝ }
+    ensures { λ r. ⌜ r ≡ fieldAt (now (s .entry)) (8 * at) 64 ⌝ }
+{
+    (wide(s[at]) << 56)
+        | (wide(s[at + 1]) << 48)
+        | (wide(s[at + 2]) << 40)
+        | (wide(s[at + 3]) << 32)
+        | (wide(s[at + 4]) << 24)
+        | (wide(s[at + 5]) << 16)
+        | (wide(s[at + 6]) << 8)
+        | wide(s[at + 7])
+}
+
 // The width bits from bit at on, as a number, one byte's part at a turn. The place is kept as a byte
 // and an offset in it, since eight times a length may not fit.
-fn read_field(s: &[u8], at: usize, width: usize) -> u64
+fn read_parts(s: &[u8], at: usize, width: usize) -> u64
     requires { ⌜ (width ≤ 64) × (at + width ≤ 8 * length (now s)) ⌝ }
     ensures { λ r. ⌜ r ≡ fieldAt (now (s .entry)) at width ⌝ }
 {
@@ -82,6 +104,25 @@ fn read_field(s: &[u8], at: usize, width: usize) -> u64
         i += n;
     }
     v
+}
+
+// The same, out of eight bytes at once where they are there.
+fn read_field(s: &[u8], at: usize, width: usize) -> u64
+    requires { ⌜ (width ≤ 64) × (at + width ≤ 8 * length (now s)) ⌝ }
+    ensures { λ r. ⌜ r ≡ fieldAt (now (s .entry)) at width ⌝ }
+{
+    let first = at / 8;
+    let end = at % 8 + width;
+    if width == 0 {
+        return 0;
+    }
+    if 64 <= end {
+        return read_parts(s, at, width);
+    }
+    if s.len() < first + 8 {
+        return read_parts(s, at, width);
+    }
+    low_bits(eight(s, first) >> (64 - end), width)
 }
 
 // The width bits from bit at on become the low bits of v.

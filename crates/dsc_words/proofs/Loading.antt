@@ -1,4 +1,4 @@
--- Words out of a frame's bytes and into bytes: eight bytes as a machine word, the protected part out of three of them, and back. Assumes nothing.
+-- Words out of a frame's bytes and into bytes: the protected part out of three machine words, and back. Assumes nothing.
 use mathlib.Core.Path.{_≡_, refl, sym, ap, ap₂, _∙_}
 use mathlib.Core.Bool.{Bool}
 use mathlib.Core.List.{List, [], _∷_, _++_, append-assoc, append-nil}
@@ -20,32 +20,6 @@ use Rattle.lanes.proofs.Number.{bitsOf-wider, bitsOf-low, bitsOf-shl, bitsOf-jo
 use Rattle.dsc.specs.Repair.{protected, wordBytes}
 use Rattle.dsc_bits.proofs.Octets.{bytes-at}
 use Rattle.dsc_words.specs.Words.{wordOf}
-
--- ---- eight bytes as a machine word
-
-module _ (s : List ℕ) (q : ℕ) (room : q + 8 ≤ length s) (fit : Bytes s) where
-  -- one byte more, moved on by m bits
-  next-byte : (j m b acc : ℕ) → j < 8 → 8 + m ≤ 64 → b ≡ getD s (q + j) 0 → acc ≡ fieldAt s (8 * q) (8 * j) * 2 ^ (8 + m)
-      → bitOr acc (b * 2 ^ m % 2 ^ 64) ≡ fieldAt s (8 * q) (8 * j + 8) * 2 ^ m
-  next-byte j m b acc h hm eb ea =
-      let lb : b < 256 = omega (arith, fit (q + j)) in
-      field-byte s q j m b (b * 2 ^ m % 2 ^ 64) acc (omega arith) eb lb ea (shl-exact 8 m 64 lb hm)
-
-  -- all eight, in the shape that the code has
-  pub eight-bytes : (b₀ b₁ b₂ b₃ b₄ b₅ b₆ b₇ : ℕ) → b₀ ≡ getD s q 0 → b₁ ≡ getD s (q + 1) 0 → b₂ ≡ getD s (q + 2) 0 → b₃ ≡ getD s (q + 3) 0
-      → b₄ ≡ getD s (q + 4) 0 → b₅ ≡ getD s (q + 5) 0 → b₆ ≡ getD s (q + 6) 0 → b₇ ≡ getD s (q + 7) 0
-      → bitOr (bitOr (bitOr (bitOr (bitOr (bitOr (bitOr (b₀ * 2 ^ 56 % 2 ^ 64) (b₁ * 2 ^ 48 % 2 ^ 64)) (b₂ * 2 ^ 40 % 2 ^ 64)) (b₃ * 2 ^ 32 % 2 ^ 64)) (b₄ * 2 ^ 24 % 2 ^ 64)) (b₅ * 2 ^ 16 % 2 ^ 64)) (b₆ * 2 ^ 8 % 2 ^ 64)) b₇
-      ≡ fieldAt s (8 * q) 64
-  unfolding value
-  eight-bytes b₀ b₁ b₂ b₃ b₄ b₅ b₆ b₇ e₀ e₁ e₂ e₃ e₄ e₅ e₆ e₇ =
-      let a₁ = sym (or-zero-l (b₀ * 2 ^ 56 % 2 ^ 64)) ∙ next-byte 0 56 b₀ 0 (omega arith) (omega arith) (e₀ ∙ ap (λ n. getD s n 0) (let e : q ≡ q + 0 = omega arith in e)) refl in
-      let a₂ = next-byte 1 48 b₁ _ (omega arith) (omega arith) e₁ a₁ in
-      let a₃ = next-byte 2 40 b₂ _ (omega arith) (omega arith) e₂ a₂ in
-      let a₄ = next-byte 3 32 b₃ _ (omega arith) (omega arith) e₃ a₃ in
-      let a₅ = next-byte 4 24 b₄ _ (omega arith) (omega arith) e₄ a₄ in
-      let a₆ = next-byte 5 16 b₅ _ (omega arith) (omega arith) e₅ a₅ in
-      let a₇ = next-byte 6 8 b₆ _ (omega arith) (omega arith) e₆ a₆ in
-      field-byte s q 7 0 b₇ b₇ _ (omega arith) e₇ (omega (arith, fit (q + 7))) a₇ (omega arith) ∙ omega arith
 
 -- ---- the protected part out of the last 24 bytes of a frame, as three machine words
 

@@ -17,35 +17,14 @@ pub struct Word {
     pub high: u64,
 }
 
-fn wide(x: u8) -> u64
-    ensures { λ r. ⌜ r ≡ x ⌝ }
-{
-    x as u64
-}
-
-// Eight bytes from byte `at` on as a number, the first byte highest. In this shape the compiler makes one load of them.
-fn eight(f: &[u8], at: usize) -> u64
-    requires { ⌜ (length (now f) ≡ 26) × (at + 8 ≤ 26) ⌝ }
-    ensures { λ r. ⌜ r ≡ fieldAt (now (f .entry)) (8 * at) 64 ⌝ }
-{
-    (wide(f[at]) << 56)
-        | (wide(f[at + 1]) << 48)
-        | (wide(f[at + 2]) << 40)
-        | (wide(f[at + 3]) << 32)
-        | (wide(f[at + 4]) << 24)
-        | (wide(f[at + 5]) << 16)
-        | (wide(f[at + 6]) << 8)
-        | wide(f[at + 7])
-}
-
 // The protected part, B17 to B203.
 pub fn received(f: &[u8]) -> Word
     requires { ⌜ length (now f) ≡ 26 ⌝ }
     ensures { λ r. ⌜ Fits r × (held r ≡ protected (now (f .entry))) ⌝ }
 {
-    let x = eight(f, 18);
-    let y = eight(f, 10);
-    let z = eight(f, 2);
+    let x = bits::eight(f, 18);
+    let y = bits::eight(f, 10);
+    let z = bits::eight(f, 2);
     Word {
         low: (x >> 4) | (y << 60),
         middle: (y >> 4) | (z << 60),

@@ -2,11 +2,11 @@
 use mathlib.Core.Path.{_≡_, refl, sym, ap, ap₂, _∙_, subst}
 use mathlib.Core.Bool.{Bool, true, false, cond, not, _&&_, and-true, and-eq-true-iff}
 use mathlib.Core.List.{List, [], _∷_, _++_, append-assoc}
-use Prim.Native.Nat.{ℕ, _+_, _-_, _*_, _^_, _≤_, _<_}
+use Prim.Native.Nat.{ℕ, zero, suc, _+_, _-_, _*_, _^_, _≤_, _<_}
 use native.Mathlib.Omega.{arith}
 use lib.Dec.{eqb, ltb}
 use lib.ListN.{length, getD, take, drop, set, length-drop}
-use lib.Seq.{paste, take-all, drop-at, take-add, drop-drop, length-take-le}
+use lib.Seq.{paste, take-nil, take-take, take-all, drop-at, take-add, drop-drop, length-take-le}
 use borrow.Author.Tests.{eqb-true, eqb-false, eq-eqb, ne-eqb, ltb-true, not-true, not-false}
 use Rattle.bits.specs.Bits.{odd, value, bitsOf, bits}
 use Rattle.bits.specs.Field.{fieldAt, within, getOf, putOf}
@@ -20,7 +20,7 @@ use Rattle.frame.specs.Fields.{fieldCount, fields, recordFrom, gather, scatter,
 use Rattle.frame.specs.declared.Body.{Body}
 use Rattle.frame.specs.declared.Body.the-variants.{AreaPage, PlacePage, CancelPage, NoInformation}
 use Rattle.frame.specs.declared.Record.{Record}
-use Rattle.frame.proofs.Bodies.{length-fieldWidths}
+use Rattle.frame.proofs.Bodies.{layout-sum, length-fieldWidths}
 use Rattle.frame_fields.specs.Table.{onesBefore, onesAfter, detailWidths, detailValues, onesHold, detailsOf}
 use Rattle.frame_fields.specs.declared.Details.{Details}
 
@@ -101,7 +101,7 @@ after-cancel : (d : List Bool) → drop 1 (drop 9 (drop 1 (drop 1 (drop 1 (drop 
 after-cancel d = simp drop-drop
 
 -- the bits fixed at 1, before the fields and after them
-fixed-bits : (b : Body) (d : List Bool) → length d ≡ 88 → fixedBitsHold (layout b) d ≡ onesHold b (value (take (onesBefore b) d)) d
+fixed-bits : (b : Body) (d : List Bool) → 88 ≤ length d → fixedBitsHold (layout b) d ≡ onesHold b (value (take (onesBefore b) d)) d
 unfolding row layout widths unpack value fixedHold onesBefore onesAfter onesHold
 fixed-bits AreaPage d e = refl
 fixed-bits PlacePage d e =
@@ -125,9 +125,9 @@ set-four (p ∷ q ∷ r ∷ s ∷ l) a b c d h = refl
 
 -- ---- what the functions answer
 
--- a field that lies in 11 bytes
-got : (s : List ℕ) (k w n : ℕ) → length s ≡ 11 → within 11 k w ≡ true → n ≡ getOf s k w → n ≡ fieldAt s k w
-got s k w n h t e = e ∙ ap (λ m. cond (within m k w) (fieldAt s k w) 0) h ∙ ap (λ b. cond b (fieldAt s k w) 0) t
+-- a field that lies in the bytes
+got : (s : List ℕ) (k w n : ℕ) → within (length s) k w ≡ true → n ≡ getOf s k w → n ≡ fieldAt s k w
+got s k w n t e = e ∙ ap (λ b. cond b (fieldAt s k w) 0) t
 
 module _ (b : Body) (v : ℕ) {n : ℕ} {t : Bool} (en : n ≡ onesBefore b) (et : t ≡ holds (segment 1 n) v) where
   before-holds : holds (fixedOnes (onesBefore b)) v ≡ t
@@ -137,13 +137,13 @@ module _ (b : Body) (v : ℕ) {n : ℕ} {t : Bool} (en : n ≡ onesBefore b) (et
   unfolding onesHold
   ones-missing d e = rw (before-holds, not-true t e)
 
-  pub ones-last : (s : List ℕ) {a g : ℕ} {last : Bool} → length s ≡ 11 → not t ≡ false → a ≡ onesAfter b → g ≡ getOf s (88 - a) a → last ≡ holds (segment 1 a) g
+  pub ones-last : (s : List ℕ) {a g : ℕ} {last : Bool} → 11 ≤ length s → not t ≡ false → a ≡ onesAfter b → g ≡ getOf s (88 - a) a → last ≡ holds (segment 1 a) g
       → last ≡ onesHold b v (bits s)
   unfolding onesHold
   ones-last s {a} {g} h e ea eg el =
       let l : onesAfter b < 64 = after-lt b in
-      let w = within-room 11 (88 - a) a (omega arith) (omega arith) in
-      let q : g ≡ fieldAt s (88 - onesAfter b) (onesAfter b) = got s (88 - a) a g h w eg ∙ ap (λ (k : ℕ). fieldAt s (88 - k) k) ea in
+      let w = within-room (length s) (88 - a) a (omega arith) (omega arith) in
+      let q : g ≡ fieldAt s (88 - onesAfter b) (onesAfter b) = got s (88 - a) a g w eg ∙ ap (λ (k : ℕ). fieldAt s (88 - k) k) ea in
       rw (before-holds, not-false t e) (el ∙ ap₂ (λ (k x : ℕ). holds (fixedOnes k) x) ea q)
 
 pub widths-made : (b : Body) (ws : List ℕ) (n : ℕ) → ws ≡ fieldWidths b → n ≡ onesBefore b → set (set (set (set ws 0 n) 1 0) 2 0) 3 0 ≡ detailWidths b
@@ -151,15 +151,37 @@ unfolding detailWidths
 widths-made b ws n ew en =
     ap₂ (λ (l : List ℕ) (k : ℕ). set (set (set (set l 0 k) 1 0) 2 0) 3 0) ew en ∙ set-four (fieldWidths b) (onesBefore b) 0 0 0 (omega (arith, length-fieldWidths b))
 
-pub details-read : (b : Body) (x p i u : ℕ) (d : List Bool) {ws v : List ℕ} {t : Bool} {o : ℕ} {r : Record} → length d ≡ 88 → ws ≡ detailWidths b → v ≡ unpack ws d
+drop-take : (w k n : ℕ) (l : List Bool) → n ≡ w + k → drop w (take n l) ≡ take k (drop w l)
+drop-take zero k n l e = let z : n ≡ k = omega (arith, e) in ap (λ (m : ℕ). take m l) z
+drop-take (suc w) k zero l e = absurd (omega arith)
+drop-take (suc w) k (suc n) [] e = sym (take-nil k)
+drop-take (suc w) k (suc n) (x ∷ l) e = drop-take w k n l (omega (arith, e))
+
+-- widths that find room in the first n bits ask nothing of the others
+unpack-front : (ws : List ℕ) (n : ℕ) (l : List Bool) → sum ws ≤ n → unpack ws (take n l) ≡ unpack ws l
+unfolding unpack sum
+unpack-front [] n l h = refl
+unpack-front (w ∷ ws) n l h =
+    ap₂ (λ (v : ℕ) (vs : List ℕ). v ∷ vs) (ap value (take-take w n l (omega arith)))
+    (ap (unpack ws) (drop-take w (n - w) n l (omega arith))
+    ∙ unpack-front ws (n - w) (drop w l) (omega arith))
+
+details-front : (b : Body) (x p i u : ℕ) (d : List Bool) → detailsOf b x p i u d ≡ detailsOf b x p i u (take 88 d)
+unfolding detailsOf
+details-front b x p i u d =
+    ap (λ (vs : List ℕ). record { holds = fixedHold (layout b) vs; contents = recordOf b x p i u (free (layout b) vs) })
+    (sym (unpack-front (widths (layout b)) 88 d (omega (arith, layout-sum b))))
+
+pub details-read : (b : Body) (x p i u : ℕ) (d : List Bool) {ws v : List ℕ} {t : Bool} {o : ℕ} {r : Record} → 88 ≤ length d → ws ≡ detailWidths b → v ≡ unpack ws d
     → t ≡ onesHold b (getD v 0 0) d → o ≡ ownUpdate b u → r ≡ recordFrom (set (set (set (set v 0 x) 1 p) 2 i) 3 o)
-    → _≡_ {A = Details} (record { holds = t; contents = r }) (detailsOf b x p i u d)
+    → _≡_ {A = Details} (record { holds = t; contents = r }) (detailsOf b x p i u (take 88 d))
 unfolding detailWidths detailsOf unpack
 details-read b x p i u d {ws} {v} n ew ev et eo er =
     let e : v ≡ unpack (detailWidths b) d = ev ∙ ap (λ (l : List ℕ). unpack l d) ew in
     ap₂ (λ (s : Bool) (y : Record). record { holds = s; contents = y })
     (et ∙ ap (λ (l : List ℕ). onesHold b (getD l 0 0) d) e ∙ sym (fixed-bits b d n))
     (er ∙ ap₂ (λ (l : List ℕ) (k : ℕ). recordFrom (set (set (set (set l 0 x) 1 p) 2 i) 3 k)) e eo ∙ sym (record-read b x p i u d))
+    ∙ details-front b x p i u d
 
 pub room-after-put : (b : Body) (s : List ℕ) (k a n : ℕ) {ws m : List ℕ} → ws ≡ detailWidths b → 11 ≤ length s → m ≡ putOf s k a n → Layout ws (length m)
 room-after-put b s k a n {ws} {m} ew h em = room b ws (length m) ew (omega (arith, ap length em, length-putOf s k a n))

@@ -3,7 +3,7 @@
 ghost use mathlib.Core.Path.{_≡_};
 ghost use mathlib.Core.List.{_++_};
 ghost use Prim.Native.Nat.{_≤_};
-ghost use lib.ListN.{length, drop};
+ghost use lib.ListN.{length, take, drop};
 ghost use Rattle.bits.specs.Bits.{bits};
 ghost use Rattle.bits.specs.Segment.{packSegments};
 ghost use Rattle.frame.specs.Body.{layout, ownUpdate};
@@ -131,7 +131,7 @@ fn own_update(body: Body, update: u64) -> u64
     }
 }
 
-// ---- the details, 11 bytes, B24 to B111
+// ---- the details, B24 to B111: the first 88 bits of a slice. More bytes after them let eight be read at once up to the last field.
 
 // How many bits each field of the record has in the details. The four that stand before the details have none there; in the first one's place
 // are the bits fixed at 1 before the body's fields.
@@ -148,7 +148,7 @@ fn detail_widths(body: Body) -> [usize; FIELDS]
 
 // The bits fixed at 1 are all 1: those before the body's fields, which are given as a number, and those after them.
 fn ones_hold(body: Body, before: u64, details: &[u8]) -> bool
-    requires { ⌜ length (now details) ≡ 11 ⌝ }
+    requires { ⌜ 11 ≤ length (now details) ⌝ }
     ensures { λ r. ⌜ r ≡ onesHold body before (bits (now (details .entry))) ⌝ }
 {
     if !bits::segment_holds(1, ones_before(body), before) {
@@ -167,8 +167,8 @@ pub fn read_details(
     update: u64,
     details: &[u8],
 ) -> Details
-    requires { ⌜ length (now details) ≡ 11 ⌝ }
-    ensures { λ r. ⌜ r ≡ detailsOf body reference pattern identification update (bits (now (details .entry))) ⌝ }
+    requires { ⌜ 11 ≤ length (now details) ⌝ }
+    ensures { λ r. ⌜ r ≡ detailsOf body reference pattern identification update (take 88 (bits (now (details .entry)))) ⌝ }
 {
     let ws = detail_widths(body);
     let mut v = [0; FIELDS];

@@ -2,16 +2,17 @@
 use mathlib.Core.Path.{_≡_, refl, sym, ap, ap₂, _∙_}
 use mathlib.Core.Bool.{Bool, true, false, cond, not}
 use mathlib.Core.List.{List}
-use Prim.Native.Nat.{ℕ, _≤_}
+use Prim.Native.Nat.{ℕ, _-_}
 use native.Mathlib.Omega.{arith}
 use lib.Dec.{eqb}
 use lib.ListN.{length, take, drop, length-drop}
+use lib.Seq.{take-all}
 use borrow.Author.Tests.{eq-eqb, ne-eqb}
 use Rattle.bits.specs.Bits.{bits}
 use Rattle.bits.specs.Field.{fieldAt, within, getOf}
 use Rattle.bits.specs.Segment.{fixedBitsHold}
 use Rattle.bits.specs.Refusal.{firstRefusal}
-use Rattle.bits.proofs.Bits.{bits-take, bits-drop}
+use Rattle.bits.proofs.Bits.{bits-drop}
 use Rattle.bits.proofs.Refusal.{Tested, end, met, unmet, tested}
 use Rattle.crc.specs.Crc.{crc10Of}
 use Rattle.frame.specs.Pattern.{patternOf}
@@ -68,10 +69,9 @@ module _ (f : List ℕ) where
 -- ---- the repaired frame
 
 -- 11 bytes of it are the details
-pub details-bits : (c : List ℕ) → length c ≡ 26 → bits (take 11 (drop 3 c)) ≡ detailsIn c
+details-bits : (c : List ℕ) → length c ≡ 26 → take 88 (bits (take (length c - 3) (drop 3 c))) ≡ detailsIn c
 details-bits c h =
-    let l : 11 ≤ length (drop 3 c) = omega (arith, length-drop 3 c) in
-    sym (bits-take 11 (drop 3 c) l) ∙ ap (take 88) (sym (bits-drop 3 c (omega arith)))
+    ap (λ (l : List ℕ). take 88 (bits l)) (take-all (length c - 3) (drop 3 c) (omega (arith, length-drop 3 c))) ∙ ap (take 88) (sym (bits-drop 3 c (omega arith)))
 
 module _ (c : List ℕ) (h : length c ≡ 26) where
   pub class-in : (i : ℕ) (k : Class) → i ≡ getOf c 21 3 → k ≡ classOf i → k ≡ classIn c
@@ -81,7 +81,7 @@ module _ (c : List ℕ) (h : length c ≡ 26) where
   body-in i page kind k ei ek ep ed = rw (class-in i k ei ek, got c 55 1 page h refl ep, got c 67 1 kind h refl ed)
 
   pub details-in : (x p i u : ℕ) (b : Body) (d : Details) → b ≡ bodyIn c → i ≡ getOf c 21 3 → u ≡ getOf c 19 2
-      → d ≡ detailsOf b x p i u (bits (take 11 (drop 3 c))) → d ≡ wordDetails x p c
+      → d ≡ detailsOf b x p i u (take 88 (bits (take (length c - 3) (drop 3 c)))) → d ≡ wordDetails x p c
   details-in x p i u b d eb ei eu e =
       e ∙ rw (eb, got c 21 3 i h refl ei, got c 19 2 u h refl eu, details-bits c h)
 

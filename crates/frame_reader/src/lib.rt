@@ -61,14 +61,7 @@ fn word_details(reference: u64, pattern: u64, word: &[u8]) -> Details
     let body = word_body(word);
     let identification = bits::get(word, 21, 3);
     let update = bits::get(word, 19, 2);
-    frame_fields::read_details(
-        body,
-        reference,
-        pattern,
-        identification,
-        update,
-        &word[3..14],
-    )
+    frame_fields::read_details(body, reference, pattern, identification, update, &word[3..])
 }
 
 // The CRC of a repaired frame is not the one that stands in it.

@@ -1,4 +1,6 @@
-use mathlib.Core.Path.{sym, _∙_}
+use mathlib.Core.Path.{sym}
+use denote.Ref.{now}
+use Rattle.bits.specs.Bits.{bits}
 use Rattle.bits.proofs.Bits.{length-bits}
 use Rattle.frame_fields.proofs.Tables.{room, widths-count, details-read}
 use native.Mathlib.Omega.{arith}
@@ -63,7 +65,7 @@ record-in-requires c κs = search needs
 
 -- src/lib.rt:162:1
 returns : tie.Need-returns
-returns c = details-read (c .before .before .before .before .before .before .before .before .before .before .args .body) _ _ _ _ _ (length-bits (c .before .before .before .before .before .before .before .before .before .before .args .details .now) ∙ omega (arith, c .before .before .before .before .before .before .before .before .before .before .pre)) (c .before .before .before .before .before .before .before .before .detail-widths .ensures) (c .before .before .before .before .before .read-all .ensures) (c .before .before .before .ones-hold .ensures) (c .before .before .own-update .ensures) (c .record-in .ensures)
+returns c = details-read (c .before .before .before .before .before .before .before .before .before .before .args .body) _ _ _ _ (bits (now (c .before .before .before .before .before .before .before .before .before .before .args .details))) (omega (arith, length-bits (now (c .before .before .before .before .before .before .before .before .before .before .args .details)), c .before .before .before .before .before .before .before .before .before .before .pre)) (c .before .before .before .before .before .before .before .before .detail-widths .ensures) (c .before .before .before .before .before .read-all .ensures) (c .before .before .before .ones-hold .ensures) (c .before .before .own-update .ensures) (c .record-in .ensures)
 
 pub read-details-spec : {M : Type 1} → statement M
 read-details-spec =

@@ -1,9 +1,9 @@
 -- `eight` meets its contract: the bytes so far are a field, the highest bits of the word. Assumes nothing.
 use native.Mathlib.Omega.{arith}
-use Rattle.dsc_words.proofs.Loading.{eight-bytes}
+use Rattle.bits.proofs.Field.{eight-bytes}
 use borrow.Author.Needs.{needs}
-use Rattle.dsc_words.proofs.eight.Statement.{statement}
-use Rattle.dsc_words.proofs.eight.Tie as tie
+use Rattle.bits.proofs.eight.Statement.{statement}
+use Rattle.bits.proofs.eight.Tie as tie
 
 shared-slice-read-wide : tie.Need-shared-slice-read-wide
 shared-slice-read-wide c = search needs
@@ -79,7 +79,7 @@ returns c =
     let four = c .before .before .before .before .before .before .before .before in
     let one = four .before .before .before .before .before .before in
     let start = one .before .before .before in
-    eight-bytes (start .args .f .now) (start .args .at) (omega arith) (λ i. omega (arith, one .before .before .shared-slice-known .given i)) _ _ _ _ _ _ _ _
+    eight-bytes (start .args .s .now) (start .args .at) (omega arith) (λ i. omega (arith, one .before .before .shared-slice-known .given i)) _ _ _ _ _ _ _ _
     (one .wide .ensures)
     (four .before .before .before .before .wide2 .ensures)
     (four .before .before .wide3 .ensures)
