@@ -43,7 +43,7 @@ pub fn desk(latitude: f64, longitude: f64, depth: f64, fields: &mut [u64]) -> u3
     if fields.len() != 5 {
         return abi::status(1, 0);
     }
-    match place::fields_of(Place {
+    match place_desk::fields_of(Place {
         latitude,
         longitude,
         depth,

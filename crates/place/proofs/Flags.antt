@@ -6,9 +6,9 @@ use lib.Dec.{T}
 use lib.Ieee.{Float}
 use Rattle.place.specs.Degrees.{tenths, degreesOf}
 use Rattle.place.specs.Desk.{sameBits, eitherSign, signedOf}
-use Rattle.place.specs.declared.desk.Value.{Value}
-use Rattle.place.specs.declared.desk.Signed.{Signed}
-use Rattle.place.specs.declared.desk.Signed.the-variants.{At, Nowhere}
+use Rattle.place.specs.declared.Value.{Value}
+use Rattle.place.specs.declared.Signed.{Signed}
+use Rattle.place.specs.declared.Signed.the-variants.{At, Nowhere}
 use Rattle.place.proofs.Equality.{same-both}
 use Rattle.place.proofs.Inverse.{tenths-inverse, tenths-plus, plus-not-neg}
 use Rattle.place.proofs.Search.{Sought, present, absent, sought, unique}

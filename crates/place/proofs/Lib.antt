@@ -1,7 +1,6 @@
 pub mod Equality
 pub mod Inverse
 pub mod Search
-pub mod Cases
 pub mod Flags
 pub mod Places
 pub mod Promises

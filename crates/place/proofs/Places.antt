@@ -8,8 +8,8 @@ use Rattle.place.specs.declared.Place.{Place}
 use Rattle.place.specs.declared.Fields.{Fields}
 use Rattle.place.specs.declared.Conversion.{Conversion}
 use Rattle.place.specs.declared.Conversion.the-variants.{Converted, Refused}
-use Rattle.place.specs.declared.desk.Value.{Value}
-use Rattle.place.specs.declared.desk.Signed.{Signed}
+use Rattle.place.specs.declared.Value.{Value}
+use Rattle.place.specs.declared.Signed.{Signed}
 use Rattle.place.proofs.Inverse.{kilometres-inverse}
 use Rattle.place.proofs.Search.{Sought, present, absent, sought, unique}
 use Rattle.place.proofs.Flags.{Flagged, flagged, unflagged, signed, one-flag}

@@ -7,8 +7,8 @@ use lib.Dec.{T, eqb}
 use lib.Ieee.{Float, binary64, fits}
 use borrow.Author.Tests.{eqb-true, eqb-false}
 use Rattle.place.specs.Desk.{sameBits, seek, valueOf}
-use Rattle.place.specs.declared.desk.Value.{Value}
-use Rattle.place.specs.declared.desk.Value.the-variants.{Of, Missing}
+use Rattle.place.specs.declared.Value.{Value}
+use Rattle.place.specs.declared.Value.the-variants.{Of, Missing}
 use Rattle.place.proofs.Equality.{passes, fails, same-equal, same-both}
 use Rattle.place.proofs.Inverse.{Inverse}
 

@@ -9,10 +9,10 @@ use Rattle.place.specs.declared.Place.{Place}
 use Rattle.place.specs.declared.Fields.{Fields}
 use Rattle.place.specs.declared.Conversion.{Conversion}
 use Rattle.place.specs.declared.Conversion.the-variants.{Converted, Refused}
-use Rattle.place.specs.declared.desk.Value.{Value}
-use Rattle.place.specs.declared.desk.Value.the-variants.{Of, Missing}
-use Rattle.place.specs.declared.desk.Signed.{Signed}
-use Rattle.place.specs.declared.desk.Signed.the-variants.{At, Nowhere}
+use Rattle.place.specs.declared.Value.{Value}
+use Rattle.place.specs.declared.Value.the-variants.{Of, Missing}
+use Rattle.place.specs.declared.Signed.{Signed}
+use Rattle.place.specs.declared.Signed.the-variants.{At, Nowhere}
 
 -- the field values that a place may have, in tenths of a degree and kilometres
 pub record Allowed (f : Fields) : Type 0 where

@@ -1,10 +1,5 @@
-// Where a hypocentre is: the frame's field values as degrees and kilometres, and the desk's place as field values.
-mod desk;
-mod images;
-
-pub use desk::fields_of;
-pub use images::degrees;
-pub use images::kilometres;
+// Where a hypocentre is: the frame's field values as degrees and kilometres, and the desk's place as field values. The rules are in specs/;
+// `place_images` and `place_desk` compute them.
 
 // A place as three doubles: degrees, south and west negative, and kilometres.
 pub struct Place {
@@ -28,4 +23,16 @@ pub struct Fields {
 pub enum Conversion {
     Converted(Fields),
     Refused(u8),
+}
+
+// The field value that a double is the image of.
+pub enum Value {
+    Of(u64),
+    Missing,
+}
+
+// The same with the flag for south or west.
+pub enum Signed {
+    At { flag: u64, tenths: u64 },
+    Nowhere,
 }

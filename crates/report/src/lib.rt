@@ -24,9 +24,9 @@ fn report_by(body: Body, message: Record) -> Reported
     match body {
         Body::AreaPage => Reported::AreasOnly,
         Body::PlacePage => Reported::Place {
-            latitude: place::degrees(message.south, message.latitude),
-            longitude: place::degrees(message.west, message.longitude),
-            depth: place::kilometres(message.depth),
+            latitude: place_images::degrees(message.south, message.latitude),
+            longitude: place_images::degrees(message.west, message.longitude),
+            depth: place_images::kilometres(message.depth),
         },
         Body::CancelPage => Reported::Cancellation,
         Body::NoInformation => Reported::Nothing,

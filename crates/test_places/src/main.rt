@@ -49,7 +49,7 @@ fn answer(c: Conversion) {
 }
 
 fn converted(latitude: f64, longitude: f64, depth: f64) -> Conversion {
-    place::fields_of(Place {
+    place_desk::fields_of(Place {
         latitude,
         longitude,
         depth,
@@ -147,14 +147,14 @@ fn degrees_line(flag: u64, tenths: u64) {
     told(b"degrees ", flag);
     told(b" ", tenths);
     text(b": ");
-    hex(bits_of(place::degrees(flag, tenths)));
+    hex(bits_of(place_images::degrees(flag, tenths)));
     text(b"\n");
 }
 
 fn kilometres_line(depth: u64) {
     told(b"kilometres ", depth);
     text(b": ");
-    hex(bits_of(place::kilometres(depth)));
+    hex(bits_of(place_images::kilometres(depth)));
     text(b"\n");
 }
 
@@ -224,7 +224,7 @@ fn sweep(flag: u64) -> Totals {
     let mut beside: u64 = 0;
     let mut n: u64 = 0;
     while n < 1801 {
-        let x = place::degrees(flag, n);
+        let x = place_images::degrees(flag, n);
         let bits = bits_of(x);
         sum = std::num::wrapping_add_u64(sum, bits);
         back = counted(back, gives(x, flag, n));
