@@ -1,4 +1,4 @@
--- Tables of remainders. A table of 256 arms is the sums of its entries at the powers of 2 (`entries`), which antt computes. Assumes nothing.
+-- Tables of remainders, for any generator: an array by one test of it, and a table as the sums of its entries at the powers of 2, which antt computes. Assumes nothing.
 use mathlib.Core.Path.{_≡_, refl, sym, ap, ap₂, _∙_}
 use mathlib.Core.Bool.{Bool, true, false}
 use mathlib.Core.List.{List, [], _∷_, _++_, map}
@@ -10,13 +10,12 @@ use lib.Dec.{T, ltb}
 use borrow.Author.Tests.{ltb-true, ltb-false}
 use lib.ListN.{length, getD, length-append, length-map, List·getD-append}
 use lib.Seq.{getD-append-add}
-use Rattle.gf2.specs.Polynomial.{zeros, add, scale, remainder, checkBits}
+use Rattle.gf2.specs.Polynomial.{zeros, add, checkBits}
 use Rattle.gf2.proofs.Sum.{add-zeros, add-append}
 use Rattle.gf2.proofs.Division.{length-check, check-add}
-use Rattle.bits.specs.Bits.{digit, odd, value, bitsOf}
+use Rattle.bits.specs.Bits.{value, bitsOf}
 use Rattle.bits.proofs.Bits.{length-bitsOf, value-lt}
 use Rattle.bits.proofs.Computed.{obeys, at-each}
-use Rattle.crc.specs.Crc.{g32}
 use Rattle.crc.specs.Remainders.{remainderOf, Remainders}
 use Rattle.lanes.proofs.Number.{value-add, add-bitsOf}
 
@@ -27,11 +26,11 @@ remainders g t l c = record { entry = λ b h. at-each (remainderOf g 0) t c b (o
 
 -- ---- laws of a remainder
 
-remainder-lt : (g : List Bool) (n b : ℕ) → remainderOf g n b < 2 ^ length g
+pub remainder-lt : (g : List Bool) (n b : ℕ) → remainderOf g n b < 2 ^ length g
 unfolding remainderOf
 remainder-lt g n b = rw length-check at (value-lt (checkBits g (bitsOf 8 b ++ zeros (8 * n))))
 
-remainder-xor : (g : List Bool) (n x y : ℕ) → remainderOf g n (bitXor x y) ≡ bitXor (remainderOf g n x) (remainderOf g n y)
+pub remainder-xor : (g : List Bool) (n x y : ℕ) → remainderOf g n (bitXor x y) ≡ bitXor (remainderOf g n x) (remainderOf g n y)
 unfolding remainderOf
 remainder-xor g n x y =
     let z = zeros (8 * n) in
@@ -44,15 +43,8 @@ remainder-xor g n x y =
     ap value (ap (checkBits g) parts ∙ check-add g (u ++ z) (w ++ z) lz)
     ∙ value-add (checkBits g (u ++ z)) (checkBits g (w ++ z)) (length-check g (u ++ z) ∙ sym (length-check g (w ++ z)))
 
-remainder-zero : (g : List Bool) (n : ℕ) → remainderOf g n 0 ≡ 0
+pub remainder-zero : (g : List Bool) (n : ℕ) → remainderOf g n 0 ≡ 0
 remainder-zero g n = remainder-xor g n 0 0 ∙ xor-self (remainderOf g n 0)
-
--- of a bit, in place of a byte: the generator, or nothing
-pub remainder-bit : (k : ℕ) → k < 2 → k * 0x04C11DB7 ≡ remainderOf g32 0 k
-unfolding remainderOf checkBits remainder add scale bitsOf odd value digit
-remainder-bit zero h = refl
-remainder-bit (suc zero) h = refl
-remainder-bit (suc (suc k)) h = absurd (omega arith)
 
 -- ---- the sums of a row of numbers, each of them taken or not; the last one is that of the lowest bit
 
@@ -66,7 +58,7 @@ powers f zero = []
 powers f (suc k) = f (2 ^ k) ∷ powers f k
 
 module _ (f : ℕ → ℕ) where
-  length-sums : (k : ℕ) → length (sums (powers f k)) ≡ 2 ^ k
+  pub length-sums : (k : ℕ) → length (sums (powers f k)) ≡ 2 ^ k
   unfolding sums powers
   length-sums zero = refl
   length-sums (suc k) =
@@ -86,7 +78,7 @@ module _ (f : ℕ → ℕ) where
     f-high : (k b : ℕ) → b < 2 ^ k → f (2 ^ k + b) ≡ bitXor (f (2 ^ k)) (f b)
     f-high k b h = let e : 1 * 2 ^ k ≡ 2 ^ k = omega arith in ap f (sym (rw e at (xor-shifted 1 k b h))) ∙ both (2 ^ k) b
 
-    getD-sums : (k b : ℕ) → b < 2 ^ k → getD (sums (powers f k)) b 0 ≡ f b
+    pub getD-sums : (k b : ℕ) → b < 2 ^ k → getD (sums (powers f k)) b 0 ≡ f b
     unfolding sums powers
     getD-sums zero b h = let e : b ≡ 0 = omega arith in ap (λ i. getD (0 ∷ []) i 0) e ∙ sym (ap f e ∙ none)
     getD-sums (suc k) b h = go (getD-sums k) (ltb b (2 ^ k)) refl
@@ -111,20 +103,3 @@ module _ (f : ℕ → ℕ) where
             ∙ getD-map c t i (rw (length-sums k) l)
             ∙ ap (bitXor c) (ih i l)
             ∙ sym (ap f s ∙ f-high k i l)
-
--- ---- the tables of CRC-32
-
--- what remains of each byte, n bytes before the last one
-unfoldable pub entries : ℕ → List ℕ
-entries n = sums (powers (remainderOf g32 n) 8)
-
-pub length-entries : (n : ℕ) → length (entries n) ≡ 256
-unfolding entries
-length-entries n = length-sums (remainderOf g32 n) 8
-
-pub entry : (n b : ℕ) → b < 256 → getD (entries n) b 0 ≡ remainderOf g32 n b
-unfolding entries
-entry n b h = getD-sums (remainderOf g32 n) (remainder-zero g32 n) (remainder-xor g32 n) 8 b h
-
-pub entry-fits : (n b : ℕ) → b < length (entries n) → getD (entries n) b 0 < 2 ^ 32
-entry-fits n b h = rw (entry n b (rw (length-entries n) at h)) (rw (length-bitsOf 32 0x04C11DB7) at (remainder-lt g32 n b))

@@ -70,7 +70,7 @@ fn crc_differs(word: &[u8]) -> bool
     ensures { λ r. ⌜ r ≡ not (eqb (fieldAt (now (word .entry)) 112 10) (crc10Of (take 91 (drop 21 (bits (now (word .entry))))))) ⌝ }
 {
     let stands = bits::get(word, 112, 10);
-    let crc = crc::crc10(word, 21, 91);
+    let crc = crc10::crc10(word, 21, 91);
     stands != crc as u64
 }
 

@@ -112,7 +112,7 @@ fn write_frame(contents: Record, frame: &mut [u8])
     bits::put(frame, 204, 4, 0);
     write_front(contents, frame);
     write_details(contents, &mut frame[3..]);
-    let crc = crc::crc10(frame, 21, 91);
+    let crc = crc10::crc10(frame, 21, 91);
     bits::put(frame, 112, 10, crc as u64);
     dsc_codec::encode(frame);
 }

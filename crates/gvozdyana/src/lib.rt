@@ -129,5 +129,5 @@ pub extern "C" fn gvz_take_out(header: &mut [u8]) -> u32
 pub extern "C" fn gvz_crc32(bytes: &[u8]) -> u32
     ensures { λ r. ⌜ r ≡ crc32Of (bits (now (bytes .entry))) ⌝ }
 {
-    crc::crc32(bytes)
+    crc32::crc32(bytes)
 }

@@ -50,7 +50,7 @@ fn crc_wrong(h: &[u8]) -> bool
     requires { ⌜ length (now h) ≡ 188 ⌝ }
     ensures { λ r. ⌜ r ≡ crcWrong (now (h .entry)) ⌝ }
 {
-    crc::crc32(&h[4..188]) != 0
+    crc32::crc32(&h[4..188]) != 0
 }
 
 // A header of zeros.

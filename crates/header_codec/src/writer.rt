@@ -75,7 +75,7 @@ pub fn seal(header: &mut [u8])
     requires { ⌜ length (now header) ≡ 188 ⌝ }
     ensures { λ _. ⌜ now (header .exit) ≡ sealed (take 184 (now (header .entry))) ⌝ }
 {
-    let crc = crc::crc32(&header[4..184]);
+    let crc = crc32::crc32(&header[4..184]);
     bits::put(header, 1472, 32, crc as u64);
 }
 

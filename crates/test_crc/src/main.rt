@@ -32,7 +32,7 @@ fn slow32(s: &[u8], to: usize) -> u64 {
 fn agree10(s: &[u8], from: usize) -> bool {
     let mut to = from;
     while to < 180 {
-        if crc::crc10(s, from, to - from) as u64 != slow10(s, from, to) {
+        if crc10::crc10(s, from, to - from) as u64 != slow10(s, from, to) {
             return false;
         }
         to += 1;
@@ -48,7 +48,7 @@ fn agree32(s: &[u8]) -> bool {
             return true;
         }
         let front = &s[..i];
-        if crc::crc32(front) as u64 != slow32(s, i * 8) {
+        if crc32::crc32(front) as u64 != slow32(s, i * 8) {
             return false;
         }
         i += 1;
@@ -105,7 +105,7 @@ fn mixed() -> [u8; 401] {
 }
 
 fn header_crc(h: &[u8; 180]) -> u32 {
-    crc::crc32(h)
+    crc32::crc32(h)
 }
 
 fn row_agrees(row: &[u8; 401]) -> bool {
@@ -141,15 +141,15 @@ fn main() {
     let words = b"The quick brown fox";
     let header = model();
     let row = mixed();
-    line10(b"CRC-10 of 123456789: ", crc::crc10(digits, 0, 72));
-    line10(b"CRC-10 of nothing: ", crc::crc10(&nothing, 0, 91));
-    line10(b"CRC-10 past the end: ", crc::crc10(digits, 1 << 63, 91));
+    line10(b"CRC-10 of 123456789: ", crc10::crc10(digits, 0, 72));
+    line10(b"CRC-10 of nothing: ", crc10::crc10(&nothing, 0, 91));
+    line10(b"CRC-10 past the end: ", crc10::crc10(digits, 1 << 63, 91));
     line10(
         b"CRC-10 of more than is there: ",
-        crc::crc10(digits, 0, 0xFFFF_FFFF_FFFF_FFFF),
+        crc10::crc10(digits, 0, 0xFFFF_FFFF_FFFF_FFFF),
     );
-    line32(b"CRC-32 of 123456789: ", crc::crc32(digits));
-    line32(b"CRC-32 of nothing: ", crc::crc32(&nothing));
+    line32(b"CRC-32 of 123456789: ", crc32::crc32(digits));
+    line32(b"CRC-32 of nothing: ", crc32::crc32(&nothing));
     line32(b"CRC-32 of the model header: ", header_crc(&header));
     answer(b"CRC-10 as bit by bit from bit 0: ", agree10(words, 0));
     answer(b"CRC-10 as bit by bit from bit 21: ", agree10(words, 21));
