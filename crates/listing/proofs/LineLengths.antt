@@ -9,9 +9,9 @@ use lib.ListN.{length, take, drop, length-append}
 use borrow.Author.Tests.{leb-true}
 use Rattle.frame.specs.Read.{judgeOf}
 use Rattle.frame.specs.declared.Verdict.{Verdict}
-use Rattle.listing.specs.Decimal.{decimal}
+use Rattle.decimals.specs.Decimal.{decimal}
 use Rattle.listing.specs.Lines.{placesText, lineOf, endLine, pieceCount, lines, listCount, endCount}
-use Rattle.listing.proofs.Decimals.{length-word, length-byte}
+use Rattle.decimals.proofs.Decimals.{length-word, length-byte}
 use Rattle.listing.proofs.Verdicts.{refusal-small, places-small}
 
 pub length-places : (v : Verdict) → v .repaired < 256 → length (placesText v) ≤ 3

@@ -7,15 +7,24 @@ use lib.ListN.{length, take, drop, length-append, length-drop}
 use lib.Seq.{take-all, take-append-le, drop-append-le, take-at, drop-at}
 use Rattle.bits.specs.Refusal.{firstRefusal}
 use Rattle.frame.specs.Read.{judgeOf, frameRefusal, placesIn}
-use Rattle.listing.specs.Decimal.{digits}
+use Rattle.decimals.specs.Decimal.{digits}
 use Rattle.listing.specs.Lines.{lineOf, endLine, pieceCount, lines, listingOf}
 use Rattle.listing.specs.Promises.{Listing}
 use Rattle.listing.proofs.LineLengths.{line-short}
-use Rattle.listing.proofs.Listed.{lines-none, lines-next}
 
 empty : listingOf [] ≡ 101 ∷ 110 ∷ 100 ∷ 32 ∷ 48 ∷ 10 ∷ []
 unfolding listingOf lines endLine digits
 empty = refl
+
+-- ---- the lines of no piece, and of one more
+
+pub lines-none : (n : ℕ) (s : List ℕ) → lines 0 n s ≡ []
+unfolding lines
+lines-none n s = refl
+
+pub lines-next : (k n : ℕ) (s : List ℕ) → lines (suc k) n s ≡ lineOf n (judgeOf (take 26 s)) ++ lines k (n + 1) (drop 26 s)
+unfolding lines
+lines-next k n s = refl
 
 -- ---- in turns
 

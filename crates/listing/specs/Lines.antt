@@ -6,7 +6,7 @@ use lib.Dec.{eqb, leb}
 use lib.ListN.{length, take, drop}
 use Rattle.frame.specs.Read.{judgeOf}
 use Rattle.frame.specs.declared.Verdict.{Verdict}
-use Rattle.listing.specs.Decimal.{decimal}
+use Rattle.decimals.specs.Decimal.{decimal}
 
 -- repaired places, or `-` when refused
 abbrev pub placesText : Verdict → List ℕ

@@ -1,5 +1,5 @@
-// The listing of the frames on standard input, on standard output. What is read, and the text that is written, are proved in `listing_turns`; here is only the
-// reading and writing, 2,520 frames at a time, so that the system is asked seldom.
+// The listing of the frames on standard input, on standard output. What is read, and the text that is written, are proved in `listing_turns` and `listing_pieces`; here is only
+// the reading and writing, 2,520 frames at a time, so that the system is asked seldom.
 ghost use mathlib.Core.Path.{_≡_};
 ghost use Prim.Native.Nat.{_≤_};
 ghost use lib.ListN.{length};
@@ -29,7 +29,7 @@ fn next(before: Turn, input: &mut [u8], out: &mut [u8]) -> Turn
     ensures { λ r. ⌜ TurnMade before (now (input .exit)) (now (out .entry)) (now (out .exit)) r ⌝ }
 {
     let got = read(before.wanted, input);
-    let turn = listing_turns::list_piece(before.listed, &input[..got], out);
+    let turn = listing_pieces::list_piece(before.listed, &input[..got], out);
     let written = turn.written;
     io::write_all(STDOUT_FILENO, &out[..written]);
     turn

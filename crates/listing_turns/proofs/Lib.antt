@@ -1,4 +1,3 @@
 pub mod Room
-pub mod Cases
 pub mod Ahead
 pub mod Promises
