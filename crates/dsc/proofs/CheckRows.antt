@@ -4,7 +4,7 @@ use mathlib.Core.Path.{_≡_, refl, sym, ap, ap₂, _∙_, fun-ext}
 use mathlib.Core.Bool.{Bool, true, false, not, cond, _&&_}
 use mathlib.Core.List.{List, [], _∷_, _++_, map}
 use mathlib.Core.Logic.{_≢_}
-use Prim.Native.Nat.{ℕ, zero, suc, _+_, _-_, _%_, _≤_, _<_}
+use Prim.Native.Nat.{ℕ, zero, suc, _+_, _-_, _/_, _%_, _^_, _≤_, _<_}
 use native.Mathlib.Nat.{suc-inj, mod-add-mod, add-mod-mod}
 use native.Mathlib.Omega.{arith}
 use lib.Dec.{eqb, ltb, T, ltb→lt, eqb→eq}
@@ -14,7 +14,7 @@ use Rattle.bits.proofs.Computed.{and-left, and-right, T-not, eqb-same, below, b
 use Rattle.gf2.specs.Polynomial.{_⊕_, zeros, add, scale, mul, poly, member}
 use Rattle.gf2.proofs.Sum.{xor-cross, and-xor, length-add, add-zeros, add-shifted}
 use Rattle.gf2.proofs.Division.{length-mul}
-use Rattle.bits.specs.Bits.{digit}
+use Rattle.bits.specs.Bits.{digit, odd}
 use Rattle.dsc.specs.Code.{powers, generatorLow, CodeWord, count}
 use Rattle.dsc.specs.CheckTable.{differences, row, rowsOf, coefficient, sumOver, syndrome}
 use Rattle.dsc.proofs.Word.{length-low}
@@ -131,6 +131,30 @@ pub onRow-shift : (s n k : ℕ) → s < 273 → n + k < 273 → onRow s (n + k) 
 onRow-shift s n k hs hn =
     onRow-difference s (n + k) hs hn ∙ ap isDifference (omega arith) ∙ sym (onRow-difference ((s + 273 - k) % 273) n (omega arith) (omega arith))
 
+-- the set as the ones of one number, so that the tests below ask one division in place of 17 comparisons
+unfoldable pub marks : List ℕ → ℕ
+marks [] = 0
+marks (d ∷ ds) = 2 ^ d + marks ds
+
+unfoldable pub marked : (m u : ℕ) → Bool
+marked m u = odd (m / 2 ^ u)
+
+alike : (a b : Bool) → T (not (a ⊕ b)) → a ≡ b
+alike true true t = refl
+alike true false t = absurd t
+alike false true t = absurd t
+alike false false t = refl
+
+marks-test : T (below 273 (λ u. not (isDifference u ⊕ marked (marks differences) u)))
+unfolding below isDifference marks marked differences odd
+marks-test = tt
+
+difference-marked : (u : ℕ) → u < 273 → isDifference u ≡ marked (marks differences) u
+difference-marked u h = alike _ _ (below-at 273 (λ u. not (isDifference u ⊕ marked (marks differences) u)) marks-test u h)
+
+pub onRow-marked : (s n : ℕ) → s < 273 → n < 273 → onRow s n ≡ marked (marks differences) ((s + 273 - n) % 273)
+onRow-marked s n hs hn = onRow-difference s n hs hn ∙ difference-marked ((s + 273 - n) % 273) (omega arith)
+
 -- a word times x^k has on row s the sum of the word on row s - k
 pub syndrome-shift : (k : ℕ) (u : List Bool) (s : ℕ) → s < 273 → length u + k ≤ 273 → syndrome (u ++ zeros k) s ≡ syndrome u ((s + 273 - k) % 273)
 syndrome-shift k [] s hs h = syndrome-zeros k s ∙ sym (syndrome-nil ((s + 273 - k) % 273))
@@ -151,28 +175,28 @@ onRow-turn s a n hs h =
 abbrev generator : List Bool
 generator = true ∷ generatorLow
 
--- the sum of the n coefficients u on row s
-rowSum : ℕ → List Bool → ℕ → Bool
-rowSum zero u s = false
-rowSum (suc n) [] s = false
-rowSum (suc n) (b ∷ u) s = (b && isDifference ((s + 273 - n) % 273)) ⊕ rowSum n u s
+-- the sum of the n coefficients u on row s, where m marks the set
+rowSum : (m n : ℕ) → List Bool → ℕ → Bool
+rowSum m zero u s = false
+rowSum m (suc n) [] s = false
+rowSum m (suc n) (b ∷ u) s = (b && marked m ((s + 273 - n) % 273)) ⊕ rowSum m n u s
 
-generator-test : T (below 273 (λ s. not (rowSum 83 generator s)))
-unfolding below rowSum isDifference differences generatorLow powers poly member
+generator-test : T (below 273 (λ s. not (rowSum (marks differences) 83 generator s)))
+unfolding below rowSum marks marked differences odd generatorLow powers poly member
 generator-test = tt
 
-syndrome-rowSum : (u : List Bool) (s : ℕ) → s < 273 → length u ≤ 273 → syndrome u s ≡ rowSum (length u) u s
+syndrome-rowSum : (u : List Bool) (s : ℕ) → s < 273 → length u ≤ 273 → syndrome u s ≡ rowSum (marks differences) (length u) u s
 unfolding rowSum
 syndrome-rowSum [] s hs h = syndrome-nil s
 syndrome-rowSum (b ∷ u) s hs h =
-    syndrome-cons b u s ∙ ap₂ (λ t r. (b && t) ⊕ r) (onRow-difference s (length u) hs (omega arith)) (syndrome-rowSum u s hs (omega arith))
+    syndrome-cons b u s ∙ ap₂ (λ t r. (b && t) ⊕ r) (onRow-marked s (length u) hs (omega arith)) (syndrome-rowSum u s hs (omega arith))
 
 pub generator-even : (k s : ℕ) → s < 273 → k ≤ 190 → syndrome (generator ++ zeros k) s ≡ false
 generator-even k s hs hk =
     syndrome-shift k generator s hs (omega (arith, length-low))
     ∙ syndrome-rowSum generator ((s + 273 - k) % 273) (omega arith) (omega (arith, length-low))
-    ∙ ap (λ n. rowSum n generator ((s + 273 - k) % 273)) (ap suc length-low)
-    ∙ T-not (rowSum 83 generator ((s + 273 - k) % 273)) (below-at 273 (λ s. not (rowSum 83 generator s)) generator-test ((s + 273 - k) % 273) (omega arith))
+    ∙ ap (λ n. rowSum (marks differences) n generator ((s + 273 - k) % 273)) (ap suc length-low)
+    ∙ T-not (rowSum (marks differences) 83 generator ((s + 273 - k) % 273)) (below-at 273 (λ s. not (rowSum (marks differences) 83 generator s)) generator-test ((s + 273 - k) % 273) (omega arith))
 
 -- the generator, added at the front of a word, changes no sum
 pub syndrome-generator : (w : List Bool) (s k : ℕ) → s < 273 → k ≤ 190 → length w ≡ k + 83 → syndrome (add generator w) s ≡ syndrome w s
@@ -219,16 +243,16 @@ abbrev shares : ℕ → ℕ
 shares x = cond (eqb x 0) 17 1
 
 -- each distance but 0 is the difference of two members of the set in one way only
-difference-test : T (below 273 (λ x. eqb (count (λ d. isDifference ((d + x) % 273)) differences) (shares x)))
-unfolding below isDifference differences digit
+difference-test : T (below 273 (λ x. eqb (count (λ d. marked (marks differences) ((d + x) % 273)) differences) (shares x)))
+unfolding below marks marked differences odd digit
 difference-test = tt
 
 shared : (p n : ℕ) → p < 273 → n < 273 → count (λ s. onRow s n) (rowsOf p) ≡ shares ((p + 273 - n) % 273)
 shared p n hp hn =
     count-map (λ s. onRow s n) (λ d. (p + d) % 273) differences
-    ∙ count-same 273 (λ d. onRow ((p + d) % 273) n) (λ d. isDifference ((d + (p + 273 - n) % 273) % 273)) differences differences-below
-    (λ d hd. onRow-through p d n hp hd hn)
-    ∙ eqb→eq _ _ (below-at 273 (λ x. eqb (count (λ d. isDifference ((d + x) % 273)) differences) (shares x)) difference-test ((p + 273 - n) % 273) (omega arith))
+    ∙ count-same 273 (λ d. onRow ((p + d) % 273) n) (λ d. marked (marks differences) ((d + (p + 273 - n) % 273) % 273)) differences differences-below
+    (λ d hd. onRow-through p d n hp hd hn ∙ difference-marked ((d + (p + 273 - n) % 273) % 273) (omega arith))
+    ∙ eqb→eq _ _ (below-at 273 (λ x. eqb (count (λ d. marked (marks differences) ((d + x) % 273)) differences) (shares x)) difference-test ((p + 273 - n) % 273) (omega arith))
 
 pub shared-one : (p n : ℕ) → p < 273 → n < 273 → p ≢ n → count (λ s. onRow s n) (rowsOf p) ≡ 1
 shared-one p n hp hn ne = shared p n hp hn ∙ ap (λ t. cond t 17 1) (ne-eqb ((p + 273 - n) % 273) 0 (λ e. ne (omega arith)))

@@ -8,13 +8,14 @@ use lib.Dec.{T, ltb, ltb→lt}
 use lib.ListN.{length}
 use borrow.Author.Tests.{ltb-true, ltb-false}
 use Rattle.bits.proofs.Computed.{and-left, and-right, T-not, below, below-at, allBelow}
+use Rattle.bits.specs.Bits.{odd}
 use Rattle.gf2.specs.Polynomial.{_⊕_, zeros, add, scale, remainder}
 use Rattle.gf2.proofs.Sum.{xor-false, length-add, add-zeros, add-self}
 use Rattle.gf2.proofs.Division.{length-remainder}
 use Rattle.dsc.specs.Code.{powers, generatorLow, CodeWord}
 use Rattle.dsc.specs.CheckTable.{differences, sumOver, syndrome}
 use Rattle.dsc.proofs.Word.{length-low, divided-word}
-use Rattle.dsc.proofs.CheckRows.{sum-xor, sum-and, sum-none, sum-same, onRow, onRow-turn, syndrome-nil, syndrome-cons, syndrome-false, syndrome-generator}
+use Rattle.dsc.proofs.CheckRows.{sum-xor, sum-and, sum-none, sum-same, onRow, onRow-turn, marks, marked, onRow-marked, syndrome-nil, syndrome-cons, syndrome-false, syndrome-generator}
 
 -- ---- sums of several rows: the rows s - a, for the numbers a of a list
 
@@ -38,6 +39,11 @@ module _ (offsets : List ℕ) (m : ℕ) (t : T (allBelow m offsets)) where
       ∙ sum-xor (λ a. b && onRow ((s + 273 - length w) % 273) a) (λ a. syndrome w ((s + 273 - a) % 273)) offsets
       ∙ ap (_⊕ mixed offsets w s) (sum-and b (onRow ((s + 273 - length w) % 273)) offsets)
 
+  -- and that is told by the marks of the set
+  rows-marked : (u : ℕ) → u < 273 → m ≤ 273 → sumOver (onRow u) offsets ≡ sumOver (λ n. marked (marks differences) ((u + 273 - n) % 273)) offsets
+  rows-marked u hu hm =
+      sum-same m (onRow u) (λ n. marked (marks differences) ((u + 273 - n) % 273)) offsets t (λ n hn. onRow-marked u n hu (omega arith))
+
 -- ---- a certificate: the rows 0, 4, 6, .. together hold the place 191 and none of the 81 places after it
 
 certificate : List ℕ
@@ -48,23 +54,27 @@ unfolding certificate
 certificate-below = tt
 
 held : ℕ → Bool
-held u = sumOver (onRow u) certificate
+held u = sumOver (λ n. marked (marks differences) ((u + 273 - n) % 273)) certificate
 
 held-first : held 191 ≡ true
-unfolding held certificate onRow differences
+unfolding held certificate marks marked differences odd
 held-first = refl
 
 held-after : T (below 81 (λ i. not (held (192 + i))))
-unfolding below held certificate onRow differences
+unfolding below held certificate marks marked differences odd
 held-after = tt
 
-mixed-above : (r : List Bool) (n : ℕ) → length r ≤ n → n ≤ 81 → mixed certificate r (191 + n) ≡ false
+held-marked : (u : ℕ) → u < 273 → sumOver (onRow u) certificate ≡ held u
 unfolding held
+held-marked u h = rows-marked certificate 100 certificate-below u h (omega arith)
+
+mixed-above : (r : List Bool) (n : ℕ) → length r ≤ n → n ≤ 81 → mixed certificate r (191 + n) ≡ false
 mixed-above [] n h hn = mixed-even certificate 100 certificate-below [] (191 + n) (omega arith) (λ s hs. syndrome-nil s)
 mixed-above (b ∷ r) n h hn =
     mixed-cons certificate 100 certificate-below b r (191 + n) (omega arith) (omega arith)
     ∙ ap₂ (λ t u. (b && t) ⊕ u)
-    (ap held (let e : (191 + n + 273 - length r) % 273 ≡ 192 + (n - length r - 1) = omega arith in e)
+    (held-marked ((191 + n + 273 - length r) % 273) (omega arith)
+    ∙ ap held (let e : (191 + n + 273 - length r) % 273 ≡ 192 + (n - length r - 1) = omega arith in e)
     ∙ T-not (held (192 + (n - length r - 1))) (below-at 81 (λ i. not (held (192 + i))) held-after (n - length r - 1) (omega arith)))
     (mixed-above r n (omega arith) hn)
     ∙ ap (_⊕ false) (and-false b)
@@ -75,7 +85,6 @@ first-false false e = refl
 
 -- so at most 82 bits with even sums are zeros
 pub even-zeros : (r : List Bool) → length r ≤ 82 → ((s : ℕ) → s < 273 → syndrome r s ≡ false) → r ≡ zeros (length r)
-unfolding held
 even-zeros [] h e = refl
 even-zeros (b ∷ r) h e = ap₂ _∷_ none (even-zeros r (omega arith) (λ s hs. sym (syndrome-false r s) ∙ ap (λ c. syndrome (c ∷ r) s) (sym none) ∙ e s hs))
   where
@@ -86,7 +95,7 @@ even-zeros (b ∷ r) h e = ap₂ _∷_ none (even-zeros r (omega arith) (λ s hs
     none =
         first-false b
         (sym
-        (ap₂ (λ t u. (b && t) ⊕ u) (ap held (let q : (191 + n + 273 - n) % 273 ≡ 191 = omega arith in q) ∙ held-first) (mixed-above r n (omega arith) (omega arith)))
+        (ap₂ (λ t u. (b && t) ⊕ u) (held-marked ((191 + n + 273 - n) % 273) (omega arith) ∙ ap held (let q : (191 + n + 273 - n) % 273 ≡ 191 = omega arith in q) ∙ held-first) (mixed-above r n (omega arith) (omega arith)))
         ∙ sym (mixed-cons certificate 100 certificate-below b r (191 + n) (omega arith) (omega arith))
         ∙ mixed-even certificate 100 certificate-below (b ∷ r) (191 + n) (omega arith) e)
 
@@ -119,8 +128,8 @@ even-word w h e =
 -- ---- any 82 neighbouring rows decide, since each row is the sum of 17 of the 82 before it
 
 -- every place is on an even number of the rows s - k, for the powers k of the generator
-powers-test : T (below 273 (λ s. not (sumOver (onRow s) powers)))
-unfolding below onRow differences powers
+powers-test : T (below 273 (λ s. not (sumOver (λ n. marked (marks differences) ((s + 273 - n) % 273)) powers)))
+unfolding below marks marked differences odd powers
 powers-test = tt
 
 powers-below : T (allBelow 83 powers)
@@ -132,7 +141,8 @@ mixed-powers [] s hs h = mixed-even powers 83 powers-below [] s hs (λ s hs. syn
 mixed-powers (b ∷ w) s hs h =
     mixed-cons powers 83 powers-below b w s hs (omega arith)
     ∙ ap₂ (λ t u. (b && t) ⊕ u)
-    (T-not (sumOver (onRow ((s + 273 - length w) % 273)) powers) (below-at 273 (λ s. not (sumOver (onRow s) powers)) powers-test ((s + 273 - length w) % 273) (omega arith)))
+    (rows-marked powers 83 powers-below ((s + 273 - length w) % 273) (omega arith) (omega arith)
+    ∙ T-not _ (below-at 273 (λ s. not (sumOver (λ n. marked (marks differences) ((s + 273 - n) % 273)) powers)) powers-test ((s + 273 - length w) % 273) (omega arith)))
     (mixed-powers w s hs (omega arith))
     ∙ ap (_⊕ false) (and-false b)
 
