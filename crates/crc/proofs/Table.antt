@@ -1,4 +1,4 @@
--- Tables of remainders, for any generator: an array by one test of it, and a table as the sums of its entries at the powers of 2, which antt computes. Assumes nothing.
+-- Tables of remainders, for any generator: a table is the sums of its entries at the powers of 2, which antt computes. Assumes nothing.
 use mathlib.Core.Path.{_≡_, refl, sym, ap, ap₂, _∙_}
 use mathlib.Core.Bool.{Bool, true, false}
 use mathlib.Core.List.{List, [], _∷_, _++_, map}
@@ -6,7 +6,7 @@ use Prim.Native.Nat.{ℕ, zero, suc, _+_, _-_, _*_, _^_, _<_}
 use native.Mathlib.Nat.{pow-suc}
 use native.Mathlib.Omega.{arith}
 use lib.Bits.{bitXor, xor-self, xor-shifted}
-use lib.Dec.{T, ltb}
+use lib.Dec.{ltb}
 use borrow.Author.Tests.{ltb-true, ltb-false}
 use lib.ListN.{length, getD, length-append, length-map, List·getD-append}
 use lib.Seq.{getD-append-add}
@@ -15,14 +15,8 @@ use Rattle.gf2.proofs.Sum.{add-zeros, add-append}
 use Rattle.gf2.proofs.Division.{length-check, check-add}
 use Rattle.bits.specs.Bits.{value, bitsOf}
 use Rattle.bits.proofs.Bits.{length-bitsOf, value-lt}
-use Rattle.bits.proofs.Computed.{obeys, at-each}
-use Rattle.crc.specs.Remainders.{remainderOf, Remainders}
+use Rattle.crc.specs.Remainders.{remainderOf}
 use Rattle.lanes.proofs.Number.{value-add, add-bitsOf}
-
--- ---- an array of remainders, from one test of the whole of it
-
-pub remainders : (g : List Bool) (t : List ℕ) → length t ≡ 256 → T (obeys (remainderOf g 0) 0 t) → Remainders g t
-remainders g t l c = record { entry = λ b h. at-each (remainderOf g 0) t c b (omega arith) }
 
 -- ---- laws of a remainder
 

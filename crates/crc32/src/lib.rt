@@ -35,14 +35,14 @@ fn feed_byte(r: u32, b: u8) -> u32
 fn check_group(b0: u8, b1: u8, b2: u8, b3: u8, b4: u8, b5: u8, b6: u8, b7: u8) -> u32
     ensures { λ z. ⌜ z ≡ value (checkBits g32 (bits (b0 ∷ b1 ∷ b2 ∷ b3 ∷ b4 ∷ b5 ∷ b6 ∷ b7 ∷ []))) ⌝ }
 {
-    crc32_tables::table0(b7)
-        ^ crc32_tables::table1(b6)
-        ^ crc32_tables::table2(b5)
-        ^ crc32_tables::table3(b4)
-        ^ crc32_tables::table4(b3)
-        ^ crc32_tables::table5(b2)
-        ^ crc32_tables::table6(b1)
-        ^ crc32_tables::table7(b0)
+    crc_tables::table0(b7)
+        ^ crc_tables::table1(b6)
+        ^ crc_tables::table2(b5)
+        ^ crc_tables::table3(b4)
+        ^ crc_tables::table4(b3)
+        ^ crc_tables::table5(b2)
+        ^ crc_tables::table6(b1)
+        ^ crc_tables::table7(b0)
 }
 
 // Eight bytes into the register of CRC-32: it is added to the first four.

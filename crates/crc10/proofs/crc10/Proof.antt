@@ -24,17 +24,14 @@ record Passed (s : List ℕ) (at count r q o left : ℕ) : Type 0 where
   register : r ≡ crc10Of (take (count - left) (drop at (bits s)))
 
 abbrev Inv-loop : tie.InvT-loop
-Inv-loop s at count t r₀ q₀ o₀ left₀ r q o left = Passed s at count r q o left
+Inv-loop s at count r₀ q₀ o₀ left₀ r q o left = Passed s at count r q o left
 
 abbrev μ-loop : tie.MeasureT-loop
-μ-loop s at count t r₀ q₀ o₀ left₀ r q o left = left
-
-table-requires : tie.Need-table-requires Inv-loop μ-loop
-table-requires c κs = search needs
+μ-loop s at count r₀ q₀ o₀ left₀ r q o left = left
 
 loop-holds : tie.Need-loop-holds Inv-loop μ-loop
 loop-holds c =
-    let a = c .before .before .args in
+    let a = c .before .args in
     let n : a .count - a .count ≡ 0 = omega arith in
     record {
       some = omega arith;
@@ -46,7 +43,7 @@ loop-holds c =
 -- no bit of s is left
 returns : tie.Need-returns Inv-loop μ-loop
 returns c =
-    let a = c .before .before .before .before .before .args in
+    let a = c .before .before .before .before .args in
     let l = c .before .before .loop in
     let b = drop (a .at) (bits (now (a .s))) in
     let n = a .count - l .left in
@@ -66,19 +63,18 @@ read-part-requires c κs = (omega arith, omega arith)
 cast-part : tie.Need-cast-part Inv-loop μ-loop
 cast-part c =
     let l = c .before .before .before .before .loop in
-    let s = now (c .before .before .before .before .before .before .before .args .s) in
+    let s = now (c .before .before .before .before .before .before .args .s) in
     let k = c .before .smaller .result in
     omega (arith, c .read-part .ensures, lt-of-lt-of-le (value-take-lt k (drop (8 * l .q + l .o) (bits s))) (pow-mono {i = k} {j = 8} (omega arith)))
 
 feed10-requires : tie.Need-feed10-requires Inv-loop μ-loop
 feed10-requires c κs =
-    let l = c .before .before .before .before .before .loop in
-    let a = c .before .before .before .before .before .before .before .before .args in
-    let k = c .before .before .smaller .result in (
-      c .before .before .before .before .before .before .table .ensures,
+    let l = c .before .before .before .before .loop in
+    let a = c .before .before .before .before .before .before .args in
+    let k = c .before .smaller .result in (
       rw (l .inv .register) (crc10-lt (take (a .count - l .left) (drop (a .at) (bits (now (a .s)))))),
       omega arith,
-      rw (c .before .read-part .ensures) (value-take-lt k (drop (8 * l .q + l .o) (bits (now (a .s))))),
+      rw (c .read-part .ensures) (value-take-lt k (drop (8 * l .q + l .o) (bits (now (a .s))))),
     )
 
 add-q : tie.Need-add-q Inv-loop μ-loop
@@ -98,16 +94,16 @@ loop-less c = omega arith
 
 loop-again : tie.Need-loop-again Inv-loop μ-loop
 loop-again c =
-    let a = c .before .before .before .before .before .before .before .before .before .args in
-    let l = c .before .before .before .before .before .before .loop in
-    let k = c .before .before .before .smaller .result in
+    let a = c .before .before .before .before .before .before .before .args in
+    let l = c .before .before .before .before .before .loop in
+    let k = c .before .before .smaller .result in
     let b = bits (now (a .s)) in
     let run = drop (a .at) b in
     let n = a .count - l .left in
     let p = 8 * l .q + l .o in
     let x = take k (drop p b) in
     let lx : length x ≡ k = length-take-le k (drop p b) (rw (length-drop, length-bits) (omega arith)) in
-    let v : bitsOf k (c .before .before .read-part .result) ≡ x = ap₂ bitsOf (sym lx) (c .before .before .read-part .ensures) ∙ bitsOf-value x in
+    let v : bitsOf k (c .before .read-part .result) ≡ x = ap₂ bitsOf (sym lx) (c .before .read-part .ensures) ∙ bitsOf-value x in
     let d : drop n run ≡ drop p b = drop-drop n (a .at) b ∙ ap (λ i. drop i b) (l .inv .place) in
     let e : n + k ≡ a .count - (l .left - k) = omega arith in
     let m : take n run ++ x ≡ take (a .count - (l .left - k)) run =
@@ -125,7 +121,7 @@ loop-again c =
 
 returns-2 : tie.Need-returns-2 Inv-loop μ-loop
 returns-2 c =
-    let a = c .before .before .before .before .args in
+    let a = c .before .before .before .args in
     let l = c .before .loop in
     let e : a .count - l .left ≡ a .count = omega arith in
     l .inv .register ∙ ap (λ n. crc10Of (take n (drop (a .at) (bits (now (a .s)))))) e
@@ -136,7 +132,6 @@ crc10-spec =
     (tie.spec
     Inv-loop
     μ-loop
-    table-requires
     loop-holds
     returns
     sub-smaller
