@@ -88,7 +88,7 @@ pub fn eight(s: &[u8], at: usize) -> u64
 
 // The width bits from bit at on, as a number, one byte's part at a turn. The place is kept as a byte
 // and an offset in it, since eight times a length may not fit.
-fn read_parts(s: &[u8], at: usize, width: usize) -> u64
+fn read_field(s: &[u8], at: usize, width: usize) -> u64
     requires { ⌜ (width ≤ 64) × (at + width ≤ 8 * length (now s)) ⌝ }
     ensures { λ r. ⌜ r ≡ fieldAt (now (s .entry)) at width ⌝ }
 {
@@ -106,8 +106,8 @@ fn read_parts(s: &[u8], at: usize, width: usize) -> u64
     v
 }
 
-// The same, out of eight bytes at once where they are there.
-fn read_field(s: &[u8], at: usize, width: usize) -> u64
+// The same, out of eight bytes at once where they are there: for widths that are not known when the program is compiled.
+fn read_wide(s: &[u8], at: usize, width: usize) -> u64
     requires { ⌜ (width ≤ 64) × (at + width ≤ 8 * length (now s)) ⌝ }
     ensures { λ r. ⌜ r ≡ fieldAt (now (s .entry)) at width ⌝ }
 {
@@ -117,10 +117,10 @@ fn read_field(s: &[u8], at: usize, width: usize) -> u64
         return 0;
     }
     if 64 <= end {
-        return read_parts(s, at, width);
+        return read_field(s, at, width);
     }
     if s.len() < first + 8 {
-        return read_parts(s, at, width);
+        return read_field(s, at, width);
     }
     low_bits(eight(s, first) >> (64 - end), width)
 }
@@ -190,7 +190,7 @@ pub fn read_all(s: &[u8], ws: &[usize], out: &mut [u64])
     let mut j = 0;
     while j < ws.len() {
         let w = ws[j];
-        out[j] = read_field(s, at, w);
+        out[j] = read_wide(s, at, w);
         at += w;
         j += 1;
     }

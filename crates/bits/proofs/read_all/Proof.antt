@@ -27,8 +27,8 @@ mul-w c = omega arith
 shared-slice-read-w : tie.Need-shared-slice-read-w Inv-loop μ-loop
 shared-slice-read-w c = omega arith
 
-read-field-requires : tie.Need-read-field-requires Inv-loop μ-loop
-read-field-requires c κs =
+read-wide-requires : tie.Need-read-wide-requires Inv-loop μ-loop
+read-wide-requires c κs =
     let b = c .before .before .before .before .before .before in
     let l = c .before .before .loop in
     let w = b .pre .0 in
@@ -59,11 +59,11 @@ loop-again c =
     let a = b .args in
     let l = c .before .before .before .loop in
     let h : l .j < length (now (a .ws)) = omega arith in
-    let e : c .read-field .result ≡ value (take (getD (now (a .ws)) (l .j) 0) (drop (sum (take (l .j) (now (a .ws)))) (bits (now (a .s))))) =
-    c .read-field .ensures ∙ ap (λ (k : ℕ). value (take (getD (now (a .ws)) (l .j) 0) (drop k (bits (now (a .s)))))) (l .inv .1) in (
+    let e : c .read-wide .result ≡ value (take (getD (now (a .ws)) (l .j) 0) (drop (sum (take (l .j) (now (a .ws)))) (bits (now (a .s))))) =
+    c .read-wide .ensures ∙ ap (λ (k : ℕ). value (take (getD (now (a .ws)) (l .j) 0) (drop k (bits (now (a .s)))))) (l .inv .1) in (
       omega arith,
       ap (λ (k : ℕ). k + getD (now (a .ws)) (l .j) 0) (l .inv .1) ∙ sym (sum-take (now (a .ws)) (l .j) h),
-      length-set (l .out) (l .j) (c .read-field .result) ∙ l .inv .2,
+      length-set (l .out) (l .j) (c .read-wide .result) ∙ l .inv .2,
       ap₂ (λ (o : List ℕ) (v : ℕ). set o (l .j) v) (l .inv .3) e ∙ unpack-next (now (a .ws)) (now (a .out)) (bits (now (a .s))) (l .j) h (b .pre .1),
     )
 
@@ -92,7 +92,7 @@ read-all-spec =
     loop-holds
     mul-w
     shared-slice-read-w
-    read-field-requires
+    read-wide-requires
     mul-out
     slice-write-out
     add-at
