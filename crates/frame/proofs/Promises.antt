@@ -22,17 +22,18 @@ use Rattle.dsc.proofs.Word.{length-word}
 use Rattle.dsc.proofs.Distance.{dist-none, dist-same}
 use Rattle.dsc.proofs.Answers.{length-protected, protected-wordBytes, repair-found}
 use Rattle.frame.specs.Pattern.{patternWord, patternOf}
+use Rattle.frame.specs.Body.{row}
 use Rattle.frame.specs.Fields.{fields, recordBody}
 use Rattle.frame.specs.Read.{identificationIn, bodyIn, valuesIn, recordIn, frameRefusal, placesIn, judgeOf, readOf, readingNumber, readingPlaces, readingFields, cleanOf}
 use Rattle.frame.specs.Area.{warnedIn}
 use Rattle.frame.specs.Write.{Legal, messageBits, recordRefusal, frameOf, writeNumber, writeOf}
-use Rattle.frame.specs.Promises.{SameUnprotected, HitFrame, hitFrame, Mended, Told, Demand2, AreasOnAir}
+use Rattle.frame.specs.Promises.{SameUnprotected, HitFrame, hitFrame, Mended, Told, Demand2, AreasOnAir, BitNumbers}
 use Rattle.frame.specs.declared.Record.{Record}
 use Rattle.frame.specs.declared.Damage.{Damage}
 use Rattle.frame.specs.declared.Reading.{Reading}
 use Rattle.frame.specs.declared.Reading.the-variants.{Accepted, Refused}
 use Rattle.frame.proofs.Parts.{outside-split, part-split, part-bits, frame-bits}
-use Rattle.frame.proofs.Bodies.{legal-sound, heads, taken}
+use Rattle.frame.proofs.Bodies.{layout-sum, legal-sound, heads, taken}
 use Rattle.frame.proofs.Frames.{wordOf, record-word, length-frame, parts-frame, found-record, found-accepted, word-pattern, outside}
 use Rattle.frame.proofs.Areas.{warned-on-air}
 use Rattle.frame.proofs.Readings.{Judged, accepted-judged, judged-accepted, judged-places, judged-dist, judged-read, read-legal, read-word}
@@ -310,3 +311,9 @@ demand2 =
 
 pub areas-on-air : AreasOnAir
 areas-on-air = record { by-bit = λ f r d k e. by-bit f r d e k; tokyo = λ f r d e w p. by-bit f r d e 15 w p (omega arith) }
+
+-- ---- the bit numbers
+
+pub bit-numbers : BitNumbers
+unfolding row
+bit-numbers = record { area = refl; place = refl; cancel = refl; no-information = refl; ends = λ b. ap (24 +_) (layout-sum b) }

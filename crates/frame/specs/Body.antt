@@ -1,10 +1,10 @@
 -- The details, B24 to B111: four bodies of 88 bits (notice 368, schedules 2 and 3). Assumes nothing.
 use mathlib.Core.Bool.{cond}
 use mathlib.Core.List.{List, [], _∷_}
-use Prim.Native.Nat.{ℕ}
+use Prim.Native.Nat.{ℕ, _+_}
 use lib.Dec.{eqb}
-use Rattle.bits.specs.Segment.{Segment}
-use Rattle.frame.specs.Entry.{Entry, ones, segmentsOf, indicesOf, time, page, areas, total, item, number, kind, south, latitude, west, longitude, depth, occurred, broadcaster}
+use Rattle.bits.specs.Segment.{Segment, width}
+use Rattle.frame.specs.Entry.{Entry, ones, segmentOf, segmentsOf, indicesOf, time, page, areas, total, item, number, kind, south, latitude, west, longitude, depth, occurred, broadcaster}
 use Rattle.frame.specs.declared.Class.{Class}
 use Rattle.frame.specs.declared.Class.the-variants.{Warning, Silent, Undefined}
 use Rattle.frame.specs.declared.Body.{Body}
@@ -24,6 +24,11 @@ row PlacePage = time ∷ page ∷ total ∷ item ∷ number ∷ kind ∷ south �
 row CancelPage = time ∷ page ∷ total ∷ item ∷ number ∷ kind ∷ ones 43 ∷ ones 1 ∷ []
 -- B24 to B55 all 1, B67 to B111 all 1
 row NoInformation = ones 32 ∷ broadcaster ∷ ones 45 ∷ []
+
+-- the first bit of each entry of a row that begins with bit n
+abbrev pub firstBits : ℕ → List Entry → List ℕ
+firstBits n [] = []
+firstBits n (e ∷ l) = n ∷ firstBits (n + width (segmentOf e)) l
 
 -- its segments
 unfoldable pub layout : Body → List Segment

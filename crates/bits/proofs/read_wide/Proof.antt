@@ -1,3 +1,4 @@
+-- `bits::read_wide` meets its contract. Assumes nothing.
 use mathlib.Core.Path.{_∙_}
 use native.Mathlib.Omega.{arith}
 use denote.Ref.{now}
@@ -5,57 +6,40 @@ use Rattle.bits.proofs.Field.{field-of-eight, field-none}
 use borrow.Author.Needs.{needs}
 use Rattle.bits.proofs.read_wide.Statement.{statement}
 use Rattle.bits.proofs.read_wide.Tie as tie
-use Rattle.bits.proofs.read_wide.Reads as reads
-use Rattle.bits.proofs.read_wide.Lts as lts
-use Rattle.bits.proofs.eight.Reads as eight-reads
-use Rattle.bits.proofs.low_bits.Reads as low-bits-reads
-use Rattle.bits.proofs.read_field.Reads as read-field-reads
 
--- src/lib.rt:115:15
 add-end : tie.Need-add-end
 add-end c = search needs
 
--- src/lib.rt:117:9
 returns : tie.Need-returns
 returns c = field-none (now (c .before .before .args .s)) (c .before .before .args .at) (c .before .before .args .width) (omega arith)
 
--- src/lib.rt:120:9
 read-field-requires : tie.Need-read-field-requires
 read-field-requires c κs = search needs
 
--- src/lib.rt:120:9
 returns-2 : tie.Need-returns-2
 returns-2 c = search needs
 
--- src/lib.rt:122:18
 add-if3 : tie.Need-add-if3
 add-if3 c = search needs
 
--- src/lib.rt:123:9
 read-field-requires-2 : tie.Need-read-field-requires-2
 read-field-requires-2 c κs = search needs
 
--- src/lib.rt:123:9
 returns-3 : tie.Need-returns-3
 returns-3 c = search needs
 
--- src/lib.rt:125:14
 eight-requires : tie.Need-eight-requires
 eight-requires c κs = search needs
 
--- src/lib.rt:125:34
 sub-low-bits : tie.Need-sub-low-bits
 sub-low-bits c = search needs
 
--- src/lib.rt:125:14
 shr-low-bits : tie.Need-shr-low-bits
 shr-low-bits c = search needs
 
--- src/lib.rt:125:5
 low-bits-requires : tie.Need-low-bits-requires
 low-bits-requires c κs = search needs
 
--- src/lib.rt:110:1
 returns-4 : tie.Need-returns-4
 returns-4 c =
     let a = c .before .before .before .before .before .before .args in

@@ -1,36 +1,26 @@
+-- `frame_fields::detail_values` meets its contract. Assumes nothing.
 use lib.Pow.{pow-pos}
 use Rattle.frame_fields.proofs.Tables.{before-lt, values-made}
 use native.Mathlib.Omega.{arith}
 use borrow.Author.Needs.{needs}
 use Rattle.frame_fields.proofs.detail_values.Statement.{statement}
 use Rattle.frame_fields.proofs.detail_values.Tie as tie
-use Rattle.frame_fields.proofs.detail_values.Reads as reads
-use Rattle.frame_fields.proofs.detail_values.Lts as lts
-use Rattle.bits.proofs.pow2.Reads as pow2-reads
-use Rattle.frame_fields.proofs.fields_of.Reads as fields-of-reads
-use Rattle.frame_fields.proofs.ones_before.Reads as ones-before-reads
 
--- src/lib.rt:191:17
 fields-of-requires : tie.Need-fields-of-requires
 fields-of-requires c κs = search needs
 
--- src/lib.rt:192:23
 ones-before-requires : tie.Need-ones-before-requires
 ones-before-requires c κs = search needs
 
--- src/lib.rt:192:12
 pow2-requires : tie.Need-pow2-requires
 pow2-requires c κs = omega (arith, c .ones-before .ensures, before-lt (c .before .before .args .body))
 
--- src/lib.rt:192:12
 sub-v : tie.Need-sub-v
 sub-v c = omega (arith, c .pow2 .ensures, pow-pos (c .before .ones-before .result))
 
--- src/lib.rt:192:5
 array-write-v : tie.Need-array-write-v
 array-write-v c = search needs
 
--- src/lib.rt:188:1
 returns : tie.Need-returns
 returns c = values-made (c .before .before .before .args .body) (c .before .before .before .args .contents) (c .before .before .fields-of .ensures) (c .before .ones-before .ensures) (c .pow2 .ensures)
 

@@ -1,44 +1,35 @@
+-- `frame_fields::field_widths` meets its contract. Assumes nothing.
 use Rattle.bits.specs.Segment.{freeWidths}
 use Rattle.frame.specs.Body.{row, layout}
 use Rattle.frame.specs.Fields.{scatter, fieldWidths}
 use borrow.Author.Needs.{needs}
 use Rattle.frame_fields.proofs.field_widths.Statement.{statement}
 use Rattle.frame_fields.proofs.field_widths.Tie as tie
-use Rattle.frame_fields.proofs.field_widths.Reads as reads
-use Rattle.frame_fields.proofs.field_widths.Lts as lts
 
--- src/lib.rt:92:27
 enum-told : tie.Need-enum-told
 enum-told c = search needs
 
--- src/lib.rt:93:28
 enum-told-2 : tie.Need-enum-told-2
 enum-told-2 c = search needs
 
--- src/lib.rt:94:29
 enum-told-3 : tie.Need-enum-told-3
 enum-told-3 c = search needs
 
--- src/lib.rt:95:32
 enum-told-4 : tie.Need-enum-told-4
 enum-told-4 c = search needs
 
--- src/lib.rt:88:1
 returns : tie.Need-returns
 unfolding row layout scatter fieldWidths freeWidths
 returns c = rw (c .enum-told .given .1)
 
--- src/lib.rt:88:1
 returns-2 : tie.Need-returns-2
 unfolding row layout scatter fieldWidths freeWidths
 returns-2 c = rw (c .enum-told2 .given .1)
 
--- src/lib.rt:88:1
 returns-3 : tie.Need-returns-3
 unfolding row layout scatter fieldWidths freeWidths
 returns-3 c = rw (c .enum-told3 .given .1)
 
--- src/lib.rt:88:1
 returns-4 : tie.Need-returns-4
 unfolding row layout scatter fieldWidths freeWidths
 returns-4 c = rw (c .enum-told4 .given .1)
