@@ -5,7 +5,7 @@ use Prim.Native.Nat.{ℕ, _-_, _≤_, _<_}
 use native.Mathlib.Omega.{arith}
 use lib.Dec.{leb}
 use borrow.Author.Tests.{le-leb, lt-leb}
-use Rattle.follower.specs.declared.Kind.the-variants.{Real, Test}
+use Rattle.follower_events.specs.declared.Kind.the-variants.{Real, Test}
 use Rattle.follower.specs.declared.Follower.{Follower}
 use Rattle.follower.specs.declared.Follower.the-variants.{Quiet, Active}
 use Rattle.abi_receiver.specs.Receiver.{stateNumber, stateOf}

@@ -4,9 +4,9 @@ use mathlib.Core.List.{List}
 use Prim.Native.Nat.{ℕ, _+_, _-_, _*_, _%_}
 use lib.Dec.{eqb, leb}
 use Rattle.follower.specs.Follow.{stepOf, eventNumber}
-use Rattle.follower.specs.declared.Kind.the-variants.{Real, Test}
-use Rattle.follower.specs.declared.Event.{Event}
-use Rattle.follower.specs.declared.Event.the-variants as event
+use Rattle.follower_events.specs.declared.Kind.the-variants.{Real, Test}
+use Rattle.follower_events.specs.declared.Event.{Event}
+use Rattle.follower_events.specs.declared.Event.the-variants as event
 use Rattle.follower.specs.declared.Follower.{Follower}
 use Rattle.follower.specs.declared.Follower.the-variants.{Quiet, Active}
 use Rattle.follower.specs.declared.Step.{Step}

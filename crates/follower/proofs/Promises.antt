@@ -23,13 +23,14 @@ use Rattle.frame.specs.declared.Reading.{Reading}
 use Rattle.frame.specs.declared.Reading.the-variants.{Accepted, Refused}
 use Rattle.frame.proofs.Bodies.{legal-sound}
 use Rattle.frame.proofs.Promises.{demand2}
-use Rattle.follower.specs.declared.Kind.{Kind}
-use Rattle.follower.specs.declared.Kind.the-variants.{Real, Test}
-use Rattle.follower.specs.declared.Event.the-variants as event
+use Rattle.follower_events.specs.declared.Kind.{Kind}
+use Rattle.follower_events.specs.declared.Kind.the-variants.{Real, Test}
+use Rattle.follower_events.specs.declared.Event.the-variants as event
 use Rattle.follower.specs.declared.Follower.{Follower}
 use Rattle.follower.specs.declared.Follower.the-variants.{Quiet, Active}
 use Rattle.follower.specs.declared.Step.{Step}
-use Rattle.follower.specs.Follow.{kindOf, sameKind, changeOf, warningEvent, silenceEvent, stepOf, eventNumber}
+use Rattle.follower_events.specs.Events.{kindOf, sameKind, changeOf}
+use Rattle.follower.specs.Follow.{warningEvent, silenceEvent, stepOf, eventNumber}
 use Rattle.follower.specs.Promises.{Warns, Silences, SomeSilence, stateAfter, eventsOf, Following, Some, Worked}
 
 -- ---- a step, by what the frame is

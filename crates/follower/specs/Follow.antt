@@ -1,8 +1,7 @@
 -- Following the update number (document 01, "Following the update number"). Assumes nothing.
-use mathlib.Core.Bool.{Bool, true, false, cond}
+use mathlib.Core.Bool.{cond}
 use mathlib.Core.List.{List}
-use Prim.Native.Nat.{ℕ, _+_, _%_}
-use lib.Dec.{eqb, leb}
+use Prim.Native.Nat.{ℕ}
 use Rattle.frame.specs.Identification.{classOf}
 use Rattle.frame.specs.Read.{readOf}
 use Rattle.frame.specs.declared.Class.{Class}
@@ -10,29 +9,15 @@ use Rattle.frame.specs.declared.Class.the-variants as class
 use Rattle.frame.specs.declared.Record.{Record}
 use Rattle.frame.specs.declared.Reading.{Reading}
 use Rattle.frame.specs.declared.Reading.the-variants as reading
-use Rattle.follower.specs.declared.Kind.{Kind}
-use Rattle.follower.specs.declared.Kind.the-variants.{Real, Test}
+use Rattle.follower_events.specs.declared.Kind.{Kind}
+use Rattle.follower_events.specs.Events.{kindOf, sameKind, changeOf}
 use Rattle.follower.specs.declared.Seen.{Seen}
 use Rattle.follower.specs.declared.Seen.the-variants as seen
-use Rattle.follower.specs.declared.Event.{Event}
-use Rattle.follower.specs.declared.Event.the-variants as event
+use Rattle.follower_events.specs.declared.Event.{Event}
+use Rattle.follower_events.specs.declared.Event.the-variants as event
 use Rattle.follower.specs.declared.Follower.{Follower}
 use Rattle.follower.specs.declared.Follower.the-variants.{Quiet, Active}
 use Rattle.follower.specs.declared.Step.{Step}
-
--- real (0, 1), test (2, 3)
-unfoldable pub kindOf : (identification : ℕ) → Kind
-kindOf i = cond (leb i 1) Real Test
-
-abbrev pub sameKind : Kind → Kind → Bool
-sameKind Real Real = true
-sameKind Real Test = false
-sameKind Test Real = false
-sameKind Test Test = true
-
--- same kind: u equal "same", u+1 mod 4 "changed", otherwise "skipped"; the old number may be any
-unfoldable pub changeOf : (old new : ℕ) → Event
-changeOf old new = cond (eqb new old) event.Same (cond (eqb new ((old + 1) % 4)) event.Changed event.Skipped)
 
 -- a warning from quiet, or of the other kind: "begins"
 abbrev pub warningEvent : Follower → Kind → ℕ → Event

@@ -11,12 +11,13 @@ use Rattle.frame.specs.declared.Class.the-variants as class
 use Rattle.frame.specs.declared.Record.{Record}
 use Rattle.frame.specs.declared.Damage.{Damage}
 use Rattle.frame.specs.declared.Reading.the-variants.{Accepted, Refused}
-use Rattle.follower.specs.declared.Kind.{Kind}
-use Rattle.follower.specs.declared.Event.{Event}
-use Rattle.follower.specs.declared.Event.the-variants as event
+use Rattle.follower_events.specs.declared.Kind.{Kind}
+use Rattle.follower_events.specs.declared.Event.{Event}
+use Rattle.follower_events.specs.declared.Event.the-variants as event
 use Rattle.follower.specs.declared.Follower.{Follower}
 use Rattle.follower.specs.declared.Follower.the-variants.{Quiet, Active}
-use Rattle.follower.specs.Follow.{kindOf, sameKind, eventNumber, stepOf}
+use Rattle.follower_events.specs.Events.{kindOf, sameKind}
+use Rattle.follower.specs.Follow.{eventNumber, stepOf}
 
 -- the frame f is accepted, and is a warning of kind k with the update number u
 pub record Warns (f : List ℕ) (k : Kind) (u : ℕ) : Type 0 where

@@ -1,31 +1,17 @@
 // Following the update number: the old state goes in by value, the next one comes back with an event.
 ghost use mathlib.Core.Path.{_≡_};
 ghost use Rattle.follower.specs.declared.Follower.the-variants.{Quiet};
-ghost use Rattle.follower.specs.Follow.{kindOf, sameKind, changeOf, warningEvent, seenIn, seenOf, stepSeen, stepOf};
+ghost use Rattle.follower.specs.Follow.{warningEvent, seenIn, seenOf, stepSeen, stepOf};
+pub use follower_events::Event;
+pub use follower_events::Kind;
 use frame::Class;
 use frame::Reading;
 use frame::Record;
-
-// What a warning is: identification 0 and 1 are real, 2 and 3 a test.
-pub enum Kind {
-    Real,
-    Test,
-}
 
 // What a frame shows to the follower.
 pub enum Seen {
     Warning(Kind, u64),
     Silence,
-    Refused(u8),
-}
-
-pub enum Event {
-    Quiet,
-    Ended,
-    Begins,
-    Same,
-    Changed,
-    Skipped,
     Refused(u8),
 }
 
@@ -40,43 +26,6 @@ pub struct Step {
     pub event: Event,
 }
 
-fn kind_of(identification: u64) -> Kind
-    ensures { λ r. ⌜ r ≡ kindOf identification ⌝ }
-{
-    if identification <= 1 {
-        return Kind::Real;
-    }
-    Kind::Test
-}
-
-// How the update number went. The old one may be any number, so that it is cut down before 1 is added.
-fn change(old: u64, new: u64) -> Event
-    ensures { λ r. ⌜ r ≡ changeOf old new ⌝ }
-{
-    if new == old {
-        return Event::Same;
-    }
-    if new == (old % 4 + 1) % 4 {
-        return Event::Changed;
-    }
-    Event::Skipped
-}
-
-fn same_kind(one: Kind, other: Kind) -> bool
-    ensures { λ r. ⌜ r ≡ sameKind one other ⌝ }
-{
-    match one {
-        Kind::Real => match other {
-            Kind::Real => true,
-            Kind::Test => false,
-        },
-        Kind::Test => match other {
-            Kind::Real => false,
-            Kind::Test => true,
-        },
-    }
-}
-
 // The event of a warning.
 fn warning_event(state: Follower, kind: Kind, update: u64) -> Event
     ensures { λ r. ⌜ r ≡ warningEvent state kind update ⌝ }
@@ -84,8 +33,8 @@ fn warning_event(state: Follower, kind: Kind, update: u64) -> Event
     match state {
         Follower::Quiet => Event::Begins,
         Follower::Active(held, old) => {
-            if same_kind(held, kind) {
-                return change(old, update);
+            if follower_events::same_kind(held, kind) {
+                return follower_events::change(old, update);
             }
             Event::Begins
         }
@@ -97,7 +46,10 @@ fn seen_in(class: Class, message: Record) -> Seen
     ensures { λ r. ⌜ r ≡ seenIn class message ⌝ }
 {
     match class {
-        Class::Warning => Seen::Warning(kind_of(message.identification), message.update),
+        Class::Warning => Seen::Warning(
+            follower_events::kind_of(message.identification),
+            message.update,
+        ),
         Class::Silent => Seen::Silence,
         Class::Undefined => Seen::Refused(6),
     }

@@ -17,8 +17,8 @@ use Rattle.frame.specs.declared.Record.{Record}
 use Rattle.frame.specs.declared.Reading.the-variants.{Accepted, Refused}
 use Rattle.follower.specs.Follow.{stepOf}
 use Rattle.follower.specs.Promises.{Warns, Some}
-use Rattle.follower.specs.declared.Kind.{Kind}
-use Rattle.follower.specs.declared.Event.the-variants.{Changed, Skipped}
+use Rattle.follower_events.specs.declared.Kind.{Kind}
+use Rattle.follower_events.specs.declared.Event.the-variants.{Changed, Skipped}
 use Rattle.follower.specs.declared.Follower.{Follower}
 
 pub record Examples : Type 0 where

@@ -1,5 +1,6 @@
 -- `follower::Follower::follow` meets its contract. Assumes nothing.
 use borrow.Author.Needs.{needs}
+use Rattle.follower.proofs.Cases.{step-refused, step-silent, step-warned}
 use Rattle.follower.proofs.Follower.follow.Statement.{statement}
 use Rattle.follower.proofs.Follower.follow.Tie as tie
 
@@ -22,16 +23,16 @@ warning-event-requires : tie.Need-warning-event-requires
 warning-event-requires c κs = search needs
 
 returns : tie.Need-returns
-returns c = rw (c .before .seen .given .1)
+returns c = step-refused _ _ _ (c .before .seen .given .1)
 
 returns-2 : tie.Need-returns-2
-returns-2 c = rw (c .enum-told2 .given .1, c .before .before .enum-told .given .1)
+returns-2 c = step-silent _ _ _ (c .enum-told2 .given .1) (c .before .before .enum-told .given .1)
 
 returns-3 : tie.Need-returns-3
-returns-3 c = rw (c .before .self .given .1, c .before .before .before .enum-told .given .1)
+returns-3 c = step-silent _ _ _ (c .before .self .given .1) (c .before .before .before .enum-told .given .1)
 
 returns-4 : tie.Need-returns-4
-returns-4 c = rw (c .before .before .seen2 .given .1, c .warning-event .ensures)
+returns-4 c = step-warned _ _ _ _ _ (c .before .before .seen2 .given .1) (c .warning-event .ensures)
 
 pub follow-spec : {M : Type 1} → statement M
 follow-spec =

@@ -1,9 +1,9 @@
--- `follower::kind_of` meets its contract. Assumes nothing.
+-- `follower_events::kind_of` meets its contract. Assumes nothing.
 use native.Mathlib.Omega.{arith}
 use borrow.Author.Tests.{le-leb, lt-leb}
-use Rattle.follower.specs.Follow.{kindOf}
-use Rattle.follower.proofs.kind_of.Statement.{statement}
-use Rattle.follower.proofs.kind_of.Tie as tie
+use Rattle.follower_events.specs.Events.{kindOf}
+use Rattle.follower_events.proofs.kind_of.Statement.{statement}
+use Rattle.follower_events.proofs.kind_of.Tie as tie
 
 returns : tie.Need-returns
 unfolding kindOf

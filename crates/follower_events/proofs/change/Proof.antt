@@ -1,12 +1,12 @@
--- `follower::change` meets its contract. Assumes nothing.
+-- `follower_events::change` meets its contract. Assumes nothing.
 use mathlib.Core.Path.{_∙_}
 use Prim.Native.Nat.{_+_, _%_}
 use native.Mathlib.Omega.{arith}
 use borrow.Author.Tests.{eq-eqb, ne-eqb}
 use borrow.Author.Needs.{needs}
-use Rattle.follower.specs.Follow.{changeOf}
-use Rattle.follower.proofs.change.Statement.{statement}
-use Rattle.follower.proofs.change.Tie as tie
+use Rattle.follower_events.specs.Events.{changeOf}
+use Rattle.follower_events.proofs.change.Statement.{statement}
+use Rattle.follower_events.proofs.change.Tie as tie
 
 returns : tie.Need-returns
 unfolding changeOf
