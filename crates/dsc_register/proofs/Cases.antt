@@ -11,7 +11,7 @@ use Rattle.dsc.specs.Code.{dist, allZero}
 use Rattle.dsc.specs.Repair.{protected, repairedTo, refusedWith, repairOf, Repairs}
 use Rattle.dsc.specs.declared.Answer.{Answer}
 use Rattle.dsc.proofs.Answers.{met}
-use Rattle.dsc_register.specs.Register.{loaded, registerWord, registerAnswer, registerRepairOf}
+use Rattle.dsc_shift_register.specs.Register.{loaded, registerWord, registerAnswer, registerRepairOf}
 use Rattle.dsc_register.proofs.Promises.{register-repair}
 
 -- the word w that the register came to

@@ -1,4 +1,3 @@
-pub mod Turns
 pub mod State
 pub mod Promises
 pub mod Cases

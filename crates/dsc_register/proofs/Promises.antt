@@ -10,7 +10,7 @@ use Rattle.dsc.specs.Code.{dist, allZero, isCodeWord}
 use Rattle.dsc.specs.Repair.{decode, answerTo, repairedTo, refusedWith, repairOf, protected}
 use Rattle.dsc.proofs.Answers.{length-protected}
 use Rattle.dsc.proofs.Majority.{length-flipped, answer-found, answer-none}
-use Rattle.dsc_register.specs.Register.{loaded, registerWord, registerAnswer, registerRepairOf}
+use Rattle.dsc_shift_register.specs.Register.{loaded, registerWord, registerAnswer, registerRepairOf}
 use Rattle.dsc_register.specs.Promises.{RegisterEngine}
 use Rattle.dsc_register.proofs.State.{loaded-remainder, register-flipped, word-zero, zero-word, zero-tested}
 

@@ -16,7 +16,7 @@ use Rattle.dsc.specs.Majority.{flipped}
 use Rattle.dsc.proofs.Word.{length-low, length-word, all-zeros, zeros-all, word-tested, tested-word}
 use Rattle.dsc.proofs.CheckRows.{count-map, count-same, differences-below, syndrome-zeros, syndrome-shift, word-even}
 use Rattle.dsc.proofs.EvenRows.{even-zeros, remainder-syndrome, even-word}
-use Rattle.dsc_register.specs.Register.{loaded, decided, decidedPlace, registerWord}
+use Rattle.dsc_shift_register.specs.Register.{loaded, decided, decidedPlace, registerWord}
 
 -- the 82 cells s have the check sums of r times x^k
 pub record Shifted (r : List Bool) (k : ℕ) (s : List Bool) : Type 0 where

@@ -9,7 +9,7 @@ use Rattle.gf2.specs.Polynomial.{zeros, remainder}
 use Rattle.dsc.specs.Code.{generatorLow, CodeWord}
 use Rattle.dsc.specs.Majority.{flipped}
 use Rattle.dsc.specs.Repair.{repairOf}
-use Rattle.dsc_register.specs.Register.{loaded, registerWord, registerRepairOf}
+use Rattle.dsc_shift_register.specs.Register.{loaded, registerWord, registerRepairOf}
 
 pub record RegisterEngine : Type 0 where
   -- document 02 i), the same answer and count on every word: whatever bytes arrive, the register comes to `repairOf`, an answer that holds word and count.

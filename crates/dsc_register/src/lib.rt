@@ -3,11 +3,8 @@
 ghost use mathlib.Core.Path.{_≡_};
 ghost use lib.ListN.{length};
 ghost use Rattle.dsc.specs.Repair.{repairOf, Repairs};
-ghost use Rattle.dsc_register.specs.Register.{registerAnswer, registerRepairOf};
+ghost use Rattle.dsc_shift_register.specs.Register.{registerAnswer, registerRepairOf};
 use dsc::Answer;
-
-mod majority;
-mod register;
 
 // The repair of 187 received bits. The majority gives a word for any bits; only the two tests say whether it is the answer.
 fn repair_word(received: &[bool]) -> Answer
@@ -16,8 +13,8 @@ fn repair_word(received: &[bool]) -> Answer
 {
     let g = dsc_tables::generator::low();
     let t = dsc_tables::check_rows::table();
-    let w = majority::decide_word(&g, &t, received);
-    if !register::is_code_word(&g, &w) {
+    let w = dsc_majority::decide_word(&g, &t, received);
+    if !dsc_shift_register::is_code_word(&g, &w) {
         return dsc_bits::refused(4);
     }
     let places = dsc_bits::distance(received, &w);

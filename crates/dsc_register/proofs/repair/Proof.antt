@@ -1,7 +1,7 @@
 -- `dsc_register::repair` meets its contract: demand 3, by the register. Assumes nothing.
 use mathlib.Core.Path.{ap, _∙_}
 use borrow.Author.Needs.{needs}
-use Rattle.dsc_register.specs.Register.{registerAnswer}
+use Rattle.dsc_shift_register.specs.Register.{registerAnswer}
 use Rattle.dsc_register.proofs.Cases.{repair-short, repair-long, register-met}
 use Rattle.dsc_register.proofs.repair.Statement.{statement}
 use Rattle.dsc_register.proofs.repair.Tie as tie
