@@ -27,9 +27,10 @@ use Rattle.dsc.proofs.Majority.{flipped-add, answer-found, answer-none}
 use Rattle.dsc_words.specs.Words.{held, Fits}
 use Rattle.dsc_words.specs.declared.Word.{Word}
 use Rattle.dsc_words.proofs.Words.{length-held}
-use Rattle.dsc_sums.specs.Sums.{Sums, AllSums, ErrorsFrom}
-use Rattle.dsc_sums.specs.declared.errors.Pattern.{Pattern}
-use Rattle.dsc_sums.specs.declared.errors.Pattern.the-variants as pattern
+use Rattle.dsc_sums.specs.Sums.{Sums, AllSums}
+use Rattle.dsc_errors.specs.Errors.{ErrorsFrom}
+use Rattle.dsc_errors.specs.declared.Pattern.{Pattern}
+use Rattle.dsc_errors.specs.declared.Pattern.the-variants as pattern
 use Rattle.dsc_codec.specs.Engine.{Finds, Located}
 use Rattle.dsc_codec.specs.declared.Found.{Found}
 use Rattle.dsc_codec.specs.declared.Found.the-variants as found

@@ -7,8 +7,8 @@ ghost use Rattle.dsc_words.specs.Words.{held, Fits};
 ghost use Rattle.dsc_codec.specs.Engine.{Finds, Located};
 use dsc::Answer;
 use dsc::Outcome;
+use dsc_errors::Pattern;
 use dsc_sums::MiddleSums;
-use dsc_sums::errors::Pattern;
 use dsc_words::Word;
 
 // What the engine finds: a code word within eight places, and in how many it differs, or that there is none.
@@ -40,7 +40,7 @@ fn find(received: Word) -> Found
         return Found::Near(received, 0);
     }
     let outer = dsc_sums::outer_sums(received);
-    let pattern = dsc_sums::errors::errors(middle, outer);
+    let pattern = dsc_errors::errors(middle, outer);
     match pattern {
         Pattern::Few(errors, places) => mend(received, middle, errors, places),
         Pattern::Many => Found::Far,

@@ -17,7 +17,7 @@ firstDifferences t = map (λ q. (273 - q) % 273) (rowAt t 0)
 
 -- of every table that meets the check table's rule, so of the shipped one
 pub record ShiftsOfTable : Type 0 where
-  -- the shifts of the product (`product::limb0` to `limb6`) and of the majority (`errors::majority`) are the first row's differences
+  -- the shifts of the product (`product::limb0` to `limb6`) and of the majority (`dsc_errors::majority`) are the first row's differences
   pub shifts : (t : List ℕ) → CheckTable t → firstDifferences t ≡ differences
   -- that row gives every other: row s is the first one moved on by s
   pub by-first-row : (t : List ℕ) → CheckTable t → (s : ℕ) → s < 273 → rowAt t s ≡ map (λ q. (q + s) % 273) (rowAt t 0)

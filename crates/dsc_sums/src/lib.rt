@@ -1,10 +1,9 @@
-// The sums of a word on the check rows, 64 rows at a time, and the error word that comes of them. Only the repair calls these functions, with words in which
-// no bit past the 187 is set, which they therefore require.
+// The sums of a word on the check rows, 64 rows at a time. Only the repair calls these functions, with words in which no bit past the 187 is set, which they
+// therefore require.
 ghost use Rattle.dsc_words.specs.Words.{held, Fits};
 ghost use Rattle.dsc_sums.specs.Sums.{Sums};
 use dsc_words::Word;
 
-pub mod errors;
 mod product;
 
 // The sums on rows 128 to 255. No place past 272 comes round to them, and a code word is known by them: any 82 neighbouring rows decide.

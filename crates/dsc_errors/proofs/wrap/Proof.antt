@@ -1,9 +1,9 @@
--- `dsc_sums::errors::wrap` meets its contract: it is a window. Assumes nothing.
+-- `dsc_errors::wrap` meets its contract: it is a window. Assumes nothing.
 use mathlib.Core.List.{[], _∷_}
 use borrow.Author.Needs.{needs}
 use Rattle.lanes.proofs.Windows.{lane-window}
-use Rattle.dsc_sums.proofs.errors.wrap.Statement.{statement}
-use Rattle.dsc_sums.proofs.errors.wrap.Tie as tie
+use Rattle.dsc_errors.proofs.wrap.Statement.{statement}
+use Rattle.dsc_errors.proofs.wrap.Tie as tie
 
 returns : tie.Need-returns
 returns c =

@@ -1,10 +1,10 @@
--- `dsc_sums::errors::errors` meets its contract: each way out by the majorities that are known by then. Assumes nothing.
+-- `dsc_errors::errors` meets its contract: each way out by the majorities that are known by then. Assumes nothing.
 use native.Mathlib.Omega.{arith}
 use borrow.Author.Needs.{needs}
 use Rattle.dsc_words.proofs.Words.{weight-wordOf}
-use Rattle.dsc_sums.proofs.ErrorWord.{cut-fits, many-low, many-middle, many-high, error-word}
-use Rattle.dsc_sums.proofs.errors.errors.Statement.{statement}
-use Rattle.dsc_sums.proofs.errors.errors.Tie as tie
+use Rattle.dsc_errors.proofs.ErrorWord.{cut-fits, many-low, many-middle, many-high, error-word}
+use Rattle.dsc_errors.proofs.errors.Statement.{statement}
+use Rattle.dsc_errors.proofs.errors.Tie as tie
 
 wrap-requires : tie.Need-wrap-requires
 wrap-requires c κs = search needs

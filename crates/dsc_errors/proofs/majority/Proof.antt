@@ -1,4 +1,4 @@
--- `dsc_sums::errors::majority` meets its contract: its windows begin at the differences. Assumes nothing.
+-- `dsc_errors::majority` meets its contract: its windows begin at the differences. Assumes nothing.
 use mathlib.Core.Path.{ap, _∙_}
 use mathlib.Core.List.{[], _∷_, map}
 use lib.Dec.{leb}
@@ -6,9 +6,9 @@ use borrow.Author.Needs.{needs}
 use Rattle.dsc.specs.CheckTable.{differences}
 use Rattle.lanes.specs.Lane.{setIn}
 use Rattle.lanes.proofs.Windows.{Fit, window}
-use Rattle.dsc_sums.proofs.Held.{set-windows}
-use Rattle.dsc_sums.proofs.errors.majority.Statement.{statement}
-use Rattle.dsc_sums.proofs.errors.majority.Tie as tie
+use Rattle.dsc_errors.proofs.Held.{set-windows}
+use Rattle.dsc_errors.proofs.majority.Statement.{statement}
+use Rattle.dsc_errors.proofs.majority.Tie as tie
 
 at-least-nine-requires : tie.Need-at-least-nine-requires
 at-least-nine-requires c κs = search needs

@@ -13,9 +13,10 @@ use Rattle.lanes.specs.Lane.{lane}
 use Rattle.lanes.proofs.Lanes.{lane-shr, lane-shl-high}
 use Rattle.dsc.specs.CheckTable.{syndrome, failures}
 use Rattle.dsc_words.specs.Words.{wordOf}
-use Rattle.dsc_sums.specs.Sums.{Sums, AllSums, Wrapped, MovedMajority, ErrorsOf, ManyErrors}
-use Rattle.dsc_sums.proofs.Held.{Row, Holds, held-five, at256, at320, at384, majority-held}
-use Rattle.dsc_sums.proofs.Flips.{Majorities, flips, flips-none, flips-more, flips-next, flips-last}
+use Rattle.dsc_sums.specs.Sums.{Sums, AllSums}
+use Rattle.dsc_errors.specs.Errors.{Wrapped, MovedMajority, ErrorsOf, ManyErrors}
+use Rattle.dsc_errors.proofs.Held.{Row, Holds, held-five, at256, at320, at384, majority-held}
+use Rattle.dsc_errors.proofs.Flips.{Majorities, flips, flips-none, flips-more, flips-next, flips-last}
 use Rattle.dsc_words.proofs.Words.{bit-word}
 
 sums-hold : {w : List Bool} {n x : ℕ} → n + 64 ≤ 273 → Sums w n 64 x → Holds (syndrome w) n 64 x

@@ -14,7 +14,7 @@ use Rattle.lanes.proofs.Windows.{Fit, window, lane-window}
 use Rattle.dsc.specs.Code.{count}
 use Rattle.dsc.specs.CheckTable.{differences, rowsOf}
 use Rattle.dsc.proofs.CheckRows.{count-map, count-same}
-use Rattle.dsc_sums.specs.Sums.{movedOn, Wrapped, MovedMajority}
+use Rattle.dsc_errors.specs.Errors.{movedOn, Wrapped, MovedMajority}
 
 -- ---- a count of windows, in the shape that the code has
 

@@ -1,12 +1,12 @@
 // The places on which the majority of the check rows fail, 64 places at a time.
 ghost use mathlib.Core.List.{[], _∷_};
-ghost use Rattle.dsc_sums.specs.Sums.{Wrapped, MovedMajority, ErrorsFrom};
-use crate::MiddleSums;
-use crate::OuterSums;
+ghost use Rattle.dsc_errors.specs.Errors.{Wrapped, MovedMajority, ErrorsFrom};
+use dsc_sums::MiddleSums;
+use dsc_sums::OuterSums;
 use dsc_words::Word;
 
 // 64 places at once: lane i says that nine or more of the bits at the differences, moved on by i, are set. The shifts are the rows through place 0, which
-// the check table gives (`shifts` in specs/Promises).
+// the check table gives (`shifts` in `dsc_sums/specs/Promises`).
 fn majority(a: u64, b: u64, c: u64, d: u64, e: u64) -> u64
     ensures { λ r. ⌜ MovedMajority (a ∷ b ∷ c ∷ d ∷ e ∷ []) r ⌝ }
 {
