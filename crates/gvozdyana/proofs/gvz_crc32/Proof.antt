@@ -1,4 +1,4 @@
--- `gvozdyana::gvz_crc32` meets its contract: the answer is that of `crc::crc32`. `search` finds this too; the file is here so that a wrong answer is refused by
+-- `gvozdyana::gvz_crc32` meets its contract: the answer is that of `crc32::crc32`. `search` finds this too; the file is here so that a wrong answer is refused by
 -- the fact that fails. Assumes nothing.
 use borrow.Author.Needs.{needs}
 use Rattle.gvozdyana.proofs.gvz_crc32.Statement.{statement}
