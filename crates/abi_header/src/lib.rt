@@ -39,7 +39,7 @@ pub fn header_read(header: &[u8], values: &mut [u64]) -> u32
     if values.len() != 145 {
         return abi::status(1, 0);
     }
-    let reading = header_codec::read(header);
+    let reading = header_reader::read(header);
     if reading.number != 0 {
         return abi::status(reading.number, 0);
     }
@@ -55,7 +55,7 @@ pub fn header_write(values: &[u64], header: &mut [u8]) -> u32
     if values.len() != 145 {
         return abi::status(1, 0);
     }
-    abi::status(header_codec::write(header_from(values), header), 0)
+    abi::status(header_writer::write(header_from(values), header), 0)
 }
 
 // Lays the repaired frame into a header.

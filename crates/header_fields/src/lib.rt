@@ -1,7 +1,6 @@
-// A header's fields: the tables of its layout, and its values out of the order of the layout and into it. Nothing here is an entry point of the box.
+// A header's fields: its values out of the order of the layout and into it. Nothing here is an entry point of the box.
 mod arrays;
 mod fields;
-mod tables;
 
 pub use arrays::has;
 pub use arrays::put_values;
@@ -11,9 +10,3 @@ pub use arrays::zeros119;
 pub use fields::extension_of;
 pub use fields::front_fields;
 pub use fields::front_of;
-pub use tables::extension_free;
-pub use tables::extension_kinds;
-pub use tables::extension_widths;
-pub use tables::front_free;
-pub use tables::front_kinds;
-pub use tables::front_widths;

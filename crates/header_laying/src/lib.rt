@@ -100,7 +100,7 @@ fn put_into(header: &mut [u8], values: &[u64; 26])
     ensures { λ _. ⌜ now (header .exit) ≡ withAc (now (header .entry)) (pack acWidths (now (values .entry))) ⌝ }
 {
     put_ac(&mut header[99..], values);
-    header_codec::seal(header);
+    header_writer::seal(header);
 }
 
 // The repaired 204 bits of a frame into a header. The header is tested fully, then the frame; a refusal changes nothing.
@@ -108,7 +108,7 @@ pub fn lay_in(header: &mut [u8], frame: &[u8]) -> u8
     ensures number { λ r. ⌜ r ≡ layInNumber (now (header .entry)) (now (frame .entry)) ⌝ }
     ensures header { λ _. ⌜ now (header .exit) ≡ layInOf (now (header .entry)) (now (frame .entry)) ⌝ }
 {
-    let number = header_codec::refusal(header);
+    let number = header_reader::refusal(header);
     if number != 0 {
         return number;
     }
@@ -127,7 +127,7 @@ pub fn take_out(header: &mut [u8]) -> u8
     ensures number { λ r. ⌜ r ≡ headerRefusal (now (header .entry)) ⌝ }
     ensures header { λ _. ⌜ now (header .exit) ≡ takeOutOf (now (header .entry)) ⌝ }
 {
-    let number = header_codec::refusal(header);
+    let number = header_reader::refusal(header);
     if number != 0 {
         return number;
     }

@@ -8,14 +8,14 @@ fn zeros() -> [u8; 188] {
 // The header of a legal record.
 pub fn written(v: &[u64; 145]) -> [u8; 188] {
     let mut buffer = zeros();
-    header_codec::write(values::header_of(v), &mut buffer);
+    header_writer::write(values::header_of(v), &mut buffer);
     buffer
 }
 
 // The writer's answer.
 pub fn written_number(v: &[u64; 145]) -> u64 {
     let mut buffer = zeros();
-    header_codec::write(values::header_of(v), &mut buffer) as u64
+    header_writer::write(values::header_of(v), &mut buffer) as u64
 }
 
 fn flip(h: &mut [u8; 188], k: usize) {
@@ -27,7 +27,7 @@ fn flip(h: &mut [u8; 188], k: usize) {
 
 fn seal_if(h: &mut [u8; 188], again: bool) {
     if again {
-        header_codec::seal(h);
+        header_writer::seal(h);
     }
 }
 
@@ -50,7 +50,7 @@ pub fn flipped(a: usize, b: usize, c: usize, again: bool) -> [u8; 188] {
 pub fn with_form(form: u64) -> [u8; 188] {
     let mut h = model();
     bits::put(&mut h, 52, 4, form);
-    header_codec::seal(&mut h);
+    header_writer::seal(&mut h);
     h
 }
 
@@ -93,7 +93,7 @@ fn same_values(a: &[u64; 145], b: &[u64; 145]) -> bool {
 
 // Reading the header gives these values.
 pub fn gives(h: &[u8; 188], v: &[u64; 145]) -> bool {
-    let reading = header_codec::read(h);
+    let reading = header_reader::read(h);
     let found = values::values_of(reading.header);
     reading.number == 0 && same_values(&found, v)
 }
@@ -109,11 +109,11 @@ fn same_bytes(a: &[u8; 188], b: &[u8; 188]) -> bool {
 
 // The header is read, and comes back when written.
 pub fn comes_back(h: &[u8; 188]) -> bool {
-    let reading = header_codec::read(h);
+    let reading = header_reader::read(h);
     if reading.number != 0 {
         return false;
     }
     let mut buffer = zeros();
-    header_codec::write(reading.header, &mut buffer);
+    header_writer::write(reading.header, &mut buffer);
     same_bytes(h, &buffer)
 }

@@ -5,8 +5,8 @@ use crate::values;
 
 // The reader's numbers and the hash of the fields.
 pub fn answer(h: &[u8]) {
-    output::told(b": ", header_codec::refusal(h) as u64);
-    let reading = header_codec::read(h);
+    output::told(b": ", header_reader::refusal(h) as u64);
+    let reading = header_reader::read(h);
     output::told(b" ", reading.number as u64);
     let v = values::values_of(reading.header);
     output::hex(b" ", output::value_hash(&v), 16);
@@ -21,7 +21,7 @@ fn zeros() -> [u8; 189] {
 fn longer() -> [u8; 189] {
     let v = values::model();
     let mut h = zeros();
-    header_codec::write(values::header_of(&v), &mut h[0..188]);
+    header_writer::write(values::header_of(&v), &mut h[0..188]);
     h
 }
 
@@ -89,7 +89,7 @@ fn states() {
 fn form_numbers() {
     for form in 0..16 {
         let h = headers::with_form(form);
-        output::told(b" ", header_codec::refusal(&h) as u64);
+        output::told(b" ", header_reader::refusal(&h) as u64);
     }
 }
 
@@ -102,7 +102,7 @@ fn add_one(counts: &mut [u64; 17], n: usize) {
 // The number of the header with bit k turned over is counted, and in the last place that it comes back.
 fn tally(counts: &mut [u64; 17], k: usize, again: bool) {
     let h = headers::flipped(k, 1504, 1504, again);
-    add_one(counts, header_codec::refusal(&h) as usize);
+    add_one(counts, header_reader::refusal(&h) as usize);
     if headers::comes_back(&h) {
         add_one(counts, 16);
     }

@@ -78,7 +78,7 @@ pub fn whole(name: &[u8], v: &[u64; 145]) {
 // A record into the first n bytes of a buffer: the number.
 fn into_first(v: &[u64; 145], n: usize, buffer: &mut [u8]) -> u64 {
     if n <= buffer.len() {
-        return header_codec::write(values::header_of(v), &mut buffer[0..n]) as u64;
+        return header_writer::write(values::header_of(v), &mut buffer[0..n]) as u64;
     }
     0
 }

@@ -1,5 +1,0 @@
-pub mod Segments
-pub mod Zeros
-pub mod HeaderRefusals
-pub mod RecordRefusals
-pub mod Writing

@@ -1,0 +1,3 @@
+pub mod FieldsWritten
+pub mod Writing
+pub mod RecordRefusals
