@@ -63,7 +63,7 @@ pub fn lay_in(header: &mut [u8], frame: &[u8]) -> u32
     ensures status { λ r. ⌜ r ≡ layInStatus (now (header .entry)) (now (frame .entry)) ⌝ }
     ensures header { λ _. ⌜ now (header .exit) ≡ layInOf (now (header .entry)) (now (frame .entry)) ⌝ }
 {
-    abi::status(header_laying::lay_in(header, frame), 0)
+    abi::status(header_inserter::lay_in(header, frame), 0)
 }
 
 // Takes a frame out of a header.
@@ -71,5 +71,5 @@ pub fn take_out(header: &mut [u8]) -> u32
     ensures status { λ r. ⌜ r ≡ takeOutStatus (now (header .entry)) ⌝ }
     ensures header { λ _. ⌜ now (header .exit) ≡ takeOutOf (now (header .entry)) ⌝ }
 {
-    abi::status(header_laying::take_out(header), 0)
+    abi::status(header_inserter::take_out(header), 0)
 }

@@ -77,6 +77,24 @@ module _ (h : List ℕ) (size : length h ≡ 188) where
       ∙ ap (λ (l : List Bool). take 476 (drop 204 l)) e
       ∙ take-all 476 (drop 204 b) (omega (arith, length-drop 204 b, length-extension-bits))
 
+-- ---- a sealed header by its parts
+
+record Parts (h a : List ℕ) (b : List Bool) : Type 0 where
+  size : length h ≡ 188
+  front : take 99 h ≡ a
+  extension : bits (take 85 (drop 99 h)) ≡ b
+  crc : crc32Of (bits (drop 4 h)) ≡ 0
+
+sealed-parts : (a : List ℕ) (b : List Bool) → length a ≡ 99 → length b ≡ 680 → Parts (sealed (a ++ bytes 85 b)) a b
+sealed-parts a b la lb =
+    let lc = length-bytes 85 b in
+    record {
+      size = length-sealed a (bytes 85 b) la lc;
+      front = sealed-front a (bytes 85 b) la lc;
+      extension = ap bits (sealed-extension a (bytes 85 b) la lc) ∙ bits-bytes 85 b lb;
+      crc = sealed-crc a (bytes 85 b) la lc;
+    }
+
 -- ---- other AC bits
 
 module _ (h : List ℕ) (bs : List Bool) (size : length h ≡ 188) (lb : length bs ≡ 204) where
@@ -87,25 +105,19 @@ module _ (h : List ℕ) (bs : List Bool) (size : length h ≡ 188) (lb : length 
   length-new : length (bs ++ afterAc h) ≡ 680
   length-new = length-append bs (afterAc h) ∙ ap₂ _+_ lb (length-afterAc h size)
 
-  length-newBytes : length (bytes 85 (bs ++ afterAc h)) ≡ 85
-  length-newBytes = length-bytes 85 (bs ++ afterAc h)
-
-  pub length-withAc : length (withAc h bs) ≡ 188
+  -- the header with other bits: its length, its parts and its CRC
+  withAc-parts : Parts (withAc h bs) (take 99 h) (bs ++ afterAc h)
   unfolding withAc afterAc
-  length-withAc = length-sealed (take 99 h) (bytes 85 (bs ++ afterAc h)) length-front length-newBytes
+  withAc-parts = sealed-parts (take 99 h) (bs ++ afterAc h) length-front length-new
 
-  pub withAc-front : take 99 (withAc h bs) ≡ take 99 h
-  unfolding withAc afterAc
-  withAc-front = sealed-front (take 99 h) (bytes 85 (bs ++ afterAc h)) length-front length-newBytes
+  length-withAc : length (withAc h bs) ≡ 188
+  length-withAc = withAc-parts .size
+
+  withAc-front : take 99 (withAc h bs) ≡ take 99 h
+  withAc-front = withAc-parts .front
 
   withAc-extension : bits (take 85 (drop 99 (withAc h bs))) ≡ bs ++ afterAc h
-  unfolding withAc afterAc
-  withAc-extension =
-      ap bits (sealed-extension (take 99 h) (bytes 85 (bs ++ afterAc h)) length-front length-newBytes) ∙ bits-bytes 85 (bs ++ afterAc h) length-new
-
-  withAc-crc : crc32Of (bits (drop 4 (withAc h bs))) ≡ 0
-  unfolding withAc afterAc
-  withAc-crc = sealed-crc (take 99 h) (bytes 85 (bs ++ afterAc h)) length-front length-newBytes
+  withAc-extension = withAc-parts .extension
 
   pub withAc-bits : acBits (withAc h bs) ≡ bs
   withAc-bits = ap (take 204) withAc-extension ∙ take-at bs (afterAc h) 204 lb
@@ -140,7 +152,7 @@ withAc-accepted h bs lb a =
     record {
       size = length-withAc h bs size lb;
       packet-sync = ap (λ (f : Front). f .packet / 2 ^ 24) front ∙ a .packet-sync;
-      crc = withAc-crc h bs size lb;
+      crc = withAc-parts h bs size lb .crc;
       form = ap (λ (f : Front). f .form) front ∙ a .form;
       slot-bit = ap (λ (x : List ℕ). fixedBitsHold frontLayout (bits x)) (withAc-front h bs size lb) ∙ a .slot-bit;
       states = ap (λ (f : Front). member 3 (f .states)) front ∙ a .states;

@@ -1,6 +1,3 @@
-pub mod Computed
 pub mod Laying
 pub mod Promises
 pub mod Worked
-pub mod AcValues
-pub mod Cases

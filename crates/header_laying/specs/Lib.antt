@@ -1,4 +1,3 @@
 pub mod Laying
-pub mod AcBits
 pub mod Promises
 pub mod Worked

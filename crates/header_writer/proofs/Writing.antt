@@ -26,7 +26,7 @@ use Rattle.header.proofs.ByteParts.{bytes-parts}
 
 -- ---- the CRC
 
-pub crc-put : (h t : List ℕ) (crc : ℕ) → length h ≡ 188 → length t ≡ length h → Bytes h → Bytes t
+crc-put : (h t : List ℕ) (crc : ℕ) → length h ≡ 188 → length t ≡ length h → Bytes h → Bytes t
     → crc ≡ crc32Of (bits (take 180 (drop 4 h))) → t ≡ putOf h 1472 32 crc → t ≡ sealed (take 184 h)
 unfolding sealed
 crc-put h t crc l lt bh bt ec e =
@@ -43,6 +43,12 @@ crc-put h t crc l lt bh bt ec e =
     ∙ ap ((bits s ++ crc32 (bits (drop 4 s))) ++_) none ∙ append-nil (bits s ++ crc32 (bits (drop 4 s))) in
     bytes-parts t 184 4 (bits s) (crc32 (bits (drop 4 s))) bt (lt ∙ l) (length-bits s ∙ ap (8 *_) ls) b
     ∙ ap (_++ bytes 4 (crc32 (bits (drop 4 s)))) (ap (λ n. bytes n (bits s)) (sym ls) ∙ bytes-bits s (Bytes-take 184 h bh))
+
+-- the CRC of the m bytes from byte a on, put at bit k
+pub crc-put-at : (h t : List ℕ) (crc : ℕ) {a m k : ℕ} → length h ≡ 188 → length t ≡ length h → Bytes h → Bytes t
+    → crc ≡ crc32Of (bits (take m (drop a h))) → t ≡ putOf h k 32 crc → a ≡ 4 → m ≡ 180 → k ≡ 1472 → t ≡ sealed (take 184 h)
+crc-put-at h t crc l lt bh bt ec e ea em ek =
+    crc-put h t crc l lt bh bt (ec ∙ ap₂ (λ (i j : ℕ). crc32Of (bits (take i (drop j h)))) em ea) (e ∙ ap (λ (i : ℕ). putOf h i 32 crc) ek)
 
 -- ---- front, extension and CRC
 

@@ -31,7 +31,7 @@ fn after(number: u8, before: u64, header: &[u8]) {
 fn lay(header: &mut [u8], n: usize, frame: &[u8]) {
     let before = output::byte_hash(header);
     if n <= header.len() {
-        let number = header_laying::lay_in(&mut header[0..n], frame);
+        let number = header_inserter::lay_in(&mut header[0..n], frame);
         after(number, before, header);
     }
 }
@@ -40,7 +40,7 @@ fn lay(header: &mut [u8], n: usize, frame: &[u8]) {
 fn take(header: &mut [u8], n: usize) {
     let before = output::byte_hash(header);
     if n <= header.len() {
-        let number = header_laying::take_out(&mut header[0..n]);
+        let number = header_inserter::take_out(&mut header[0..n]);
         after(number, before, header);
     }
 }

@@ -1,6 +1,7 @@
 -- `header_writer::seal` meets its contract. Assumes nothing.
+use mathlib.Core.Path.{refl}
 use denote.Ref.{now}
-use Rattle.header_writer.proofs.Writing.{crc-put}
+use Rattle.header_writer.proofs.Writing.{crc-put-at}
 use borrow.Author.Needs.{needs}
 use Rattle.header_writer.proofs.seal.Statement.{statement}
 use Rattle.header_writer.proofs.seal.Tie as tie
@@ -31,7 +32,8 @@ returns c =
     let put = c .before .before .put in
     let crc = c .before .before .before .before .crc32 in
     let b = c .before .before .before .before .before .before .before .before in
-    crc-put (now (b .args .header)) (put .last .0) (crc .result) (b .pre) (put .kept .0) (λ i. c .before .before .before .before .before .before .before .slice-known .given i .fits) (λ i. c .slice-known2 .given i .fits) (crc .ensures) (put .ensures)
+    let h = now (b .args .header) in
+    crc-put-at h (put .last .0) (crc .result) (b .pre) (put .kept .0) (λ i. c .before .before .before .before .before .before .before .slice-known .given i .fits) (λ i. c .slice-known2 .given i .fits) (crc .ensures) (put .ensures) refl refl refl
 
 pub seal-spec : {M : Type 1} → statement M
 seal-spec =

@@ -1,4 +1,4 @@
--- `header_laying::ac_values` meets its contract. Assumes nothing.
+-- `header_inserter::ac_values` meets its contract. Assumes nothing.
 use mathlib.Core.Path.{_≡_, _∙_, ap}
 use mathlib.Core.List.{List}
 use Prim.Native.Nat.{ℕ}
@@ -7,9 +7,9 @@ use denote.Ref.{now}
 use borrow.Author.Needs.{needs}
 use Rattle.bits.specs.Bits.{bits}
 use Rattle.bits.specs.Layout.{unpack}
-use Rattle.header_laying.proofs.AcValues.{frame-room}
-use Rattle.header_laying.proofs.ac_values.Statement.{statement}
-use Rattle.header_laying.proofs.ac_values.Tie as tie
+use Rattle.header_inserter.proofs.AcValues.{frame-room}
+use Rattle.header_inserter.proofs.ac_values.Statement.{statement}
+use Rattle.header_inserter.proofs.ac_values.Tie as tie
 
 ac-widths-requires : tie.Need-ac-widths-requires
 ac-widths-requires c κs = search needs

@@ -1,8 +1,8 @@
--- `header_laying::take_out` meets its contract. Assumes nothing.
+-- `header_inserter::take_out` meets its contract. Assumes nothing.
 use borrow.Author.Needs.{needs}
-use Rattle.header_laying.proofs.Cases.{accepted-size, out-refused, taken}
-use Rattle.header_laying.proofs.take_out.Statement.{statement}
-use Rattle.header_laying.proofs.take_out.Tie as tie
+use Rattle.header_inserter.proofs.Cases.{accepted-size, out-refused, taken}
+use Rattle.header_inserter.proofs.take_out.Statement.{statement}
+use Rattle.header_inserter.proofs.take_out.Tie as tie
 
 refusal-requires : tie.Need-refusal-requires
 refusal-requires c κs = search needs

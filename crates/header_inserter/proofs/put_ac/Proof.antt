@@ -1,11 +1,11 @@
--- `header_laying::put_ac` meets its contract. Assumes nothing.
+-- `header_inserter::put_ac` meets its contract. Assumes nothing.
 use mathlib.Core.Path.{_≡_}
 use lib.ListN.{length}
 use denote.Ref.{now}
 use borrow.Author.Needs.{needs}
-use Rattle.header_laying.proofs.AcValues.{part-room, part-written}
-use Rattle.header_laying.proofs.put_ac.Statement.{statement}
-use Rattle.header_laying.proofs.put_ac.Tie as tie
+use Rattle.header_inserter.proofs.AcValues.{part-room, part-written}
+use Rattle.header_inserter.proofs.put_ac.Statement.{statement}
+use Rattle.header_inserter.proofs.put_ac.Tie as tie
 
 ac-widths-requires : tie.Need-ac-widths-requires
 ac-widths-requires c κs = search needs

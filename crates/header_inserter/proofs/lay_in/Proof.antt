@@ -1,9 +1,9 @@
--- `header_laying::lay_in` meets its contract. Assumes nothing.
+-- `header_inserter::lay_in` meets its contract. Assumes nothing.
 use native.Mathlib.Omega.{arith}
 use borrow.Author.Needs.{needs}
-use Rattle.header_laying.proofs.Cases.{accepted-size, header-refused, frame-refused, laid}
-use Rattle.header_laying.proofs.lay_in.Statement.{statement}
-use Rattle.header_laying.proofs.lay_in.Tie as tie
+use Rattle.header_inserter.proofs.Cases.{accepted-size, header-refused, frame-refused, laid}
+use Rattle.header_inserter.proofs.lay_in.Statement.{statement}
+use Rattle.header_inserter.proofs.lay_in.Tie as tie
 
 refusal-requires : tie.Need-refusal-requires
 refusal-requires c κs = search needs

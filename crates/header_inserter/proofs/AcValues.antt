@@ -11,9 +11,9 @@ use Rattle.bits.specs.Layout.{pack, unpack, sum, Layout}
 use Rattle.bits.proofs.Bits.{length-bytes, length-bits, bits-take, bitsOf-value}
 use Rattle.bits.proofs.Layouts.{length-pack, layoutb-layout}
 use Rattle.header.specs.Header.{sealed}
 use Rattle.header_laying.specs.Laying.{withAc}
 use Rattle.header.proofs.ByteParts.{written-part}
-use Rattle.header_laying.specs.AcBits.{acWidths, acOnes, withFirst}
+use Rattle.header_inserter.specs.AcBits.{acWidths, acOnes, withFirst}
 
 -- ---- the widths
 

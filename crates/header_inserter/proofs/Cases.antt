@@ -11,10 +11,10 @@ use Rattle.bits.specs.Layout.{pack, unpack}
 use Rattle.frame.specs.Read.{frameRefusal, cleanOf, cleanedOf}
 use Rattle.frame.specs.declared.Cleaned.{Cleaned}
 use Rattle.header.specs.Header.{headerRefusal}
 use Rattle.header_laying.specs.Laying.{withAc, repairedBits, layInNumber, layInOf, takeOutOf}
-use Rattle.header_laying.specs.AcBits.{acWidths, acOnes}
-use Rattle.header_laying.proofs.AcValues.{all-ones, frame-first}
+use Rattle.header_inserter.specs.AcBits.{acWidths, acOnes}
+use Rattle.header_inserter.proofs.AcValues.{all-ones, frame-first}
 use Rattle.header_laying.proofs.Promises.{laying, laid-with, taken-with, length-clean, size}
 
 -- an accepted header has 188 bytes
 pub accepted-size : (h : List ℕ) (n : ℕ) → n ≡ headerRefusal h → n ≡ 0 → length h ≡ 188

@@ -1,4 +1,4 @@
--- `header_laying::put_into` meets its contract. Assumes nothing.
+-- `header_inserter::put_into` meets its contract. Assumes nothing.
 use mathlib.Core.Path.{refl}
 use mathlib.Core.List.{_++_}
 use Prim.Native.Nat.{_-_}
@@ -8,10 +8,10 @@ use denote.Ref.{now}
 use borrow.Author.Needs.{needs}
 use Rattle.bits.specs.Layout.{pack}
 use Rattle.bits.proofs.Slices.{rest-lent}
-use Rattle.header_laying.specs.AcBits.{acWidths, withFirst}
-use Rattle.header_laying.proofs.AcValues.{header-written}
-use Rattle.header_laying.proofs.put_into.Statement.{statement}
-use Rattle.header_laying.proofs.put_into.Tie as tie
+use Rattle.header_inserter.specs.AcBits.{acWidths, withFirst}
+use Rattle.header_inserter.proofs.AcValues.{header-written}
+use Rattle.header_inserter.proofs.put_into.Statement.{statement}
+use Rattle.header_inserter.proofs.put_into.Tie as tie
 
 sub-put-ac : tie.Need-sub-put-ac
 sub-put-ac c = search needs

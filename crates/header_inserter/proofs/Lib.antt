@@ -1,0 +1,2 @@
+pub mod AcValues
+pub mod Cases

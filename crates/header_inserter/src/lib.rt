@@ -1,0 +1,137 @@
+// Laying a warning frame into a header, and taking it out. The rules are those of `header_laying`.
+ghost use mathlib.Core.Path.{_≡_};
+ghost use lib.ListN.{length};
+ghost use Rattle.bits.specs.Bits.{bits};
+ghost use Rattle.bits.specs.Layout.{pack, unpack};
+ghost use Rattle.header.specs.Header.{headerRefusal};
+ghost use Rattle.header_laying.specs.Laying.{withAc, layInNumber, layInOf, takeOutOf};
+ghost use Rattle.header_inserter.specs.AcBits.{acWidths, acOnes, withFirst};
+
+// The 204 AC bits are 25 bytes and then 4 bits.
+fn ac_widths() -> [usize; 26]
+    ensures { λ r. ⌜ r ≡ acWidths ⌝ }
+{
+    [
+        8,
+        8,
+        8,
+        8,
+        8,
+        8,
+        8,
+        8,
+        8,
+        8,
+        8,
+        8,
+        8,
+        8,
+        8,
+        8,
+        8,
+        8,
+        8,
+        8,
+        8,
+        8,
+        8,
+        8,
+        8,
+        4,
+    ]
+}
+
+// All of them 1.
+fn ac_ones() -> [u64; 26]
+    ensures { λ r. ⌜ r ≡ acOnes ⌝ }
+{
+    [
+        255,
+        255,
+        255,
+        255,
+        255,
+        255,
+        255,
+        255,
+        255,
+        255,
+        255,
+        255,
+        255,
+        255,
+        255,
+        255,
+        255,
+        255,
+        255,
+        255,
+        255,
+        255,
+        255,
+        255,
+        255,
+        15,
+    ]
+}
+
+// The first 204 bits of a frame.
+fn ac_values(frame: &[u8; 26]) -> [u64; 26]
+    ensures { λ r. ⌜ r ≡ unpack acWidths (bits (now (frame .entry))) ⌝ }
+{
+    let widths = ac_widths();
+    let mut values = header_fields::zeros26();
+    bits::read_all(frame, &widths, &mut values);
+    values
+}
+
+// The bits into the part that starts at byte 99: the bits after them stay.
+fn put_ac(part: &mut [u8], values: &[u64; 26])
+    requires { ⌜ length (now part) ≡ 89 ⌝ }
+    ensures { λ _. ⌜ now (part .exit) ≡ withFirst (pack acWidths (now (values .entry))) (now (part .entry)) ⌝ }
+{
+    let widths = ac_widths();
+    bits::write_all(part, &widths, values);
+}
+
+// The bits into a header, and the CRC.
+fn put_into(header: &mut [u8], values: &[u64; 26])
+    requires { ⌜ length (now header) ≡ 188 ⌝ }
+    ensures { λ _. ⌜ now (header .exit) ≡ withAc (now (header .entry)) (pack acWidths (now (values .entry))) ⌝ }
+{
+    put_ac(&mut header[99..], values);
+    header_writer::seal(header);
+}
+
+// The repaired 204 bits of a frame into a header. The header is tested fully, then the frame; a refusal changes nothing.
+pub fn lay_in(header: &mut [u8], frame: &[u8]) -> u8
+    ensures number { λ r. ⌜ r ≡ layInNumber (now (header .entry)) (now (frame .entry)) ⌝ }
+    ensures header { λ _. ⌜ now (header .exit) ≡ layInOf (now (header .entry)) (now (frame .entry)) ⌝ }
+{
+    let number = header_reader::refusal(header);
+    if number != 0 {
+        return number;
+    }
+    let cleaned = frame_reader::clean(frame);
+    if cleaned.number != 0 {
+        return cleaned.number;
+    }
+    let repaired = cleaned.frame;
+    let values = ac_values(&repaired);
+    put_into(header, &values);
+    0
+}
+
+// 204 ones into a header. The header alone is tested; a refusal changes nothing.
+pub fn take_out(header: &mut [u8]) -> u8
+    ensures number { λ r. ⌜ r ≡ headerRefusal (now (header .entry)) ⌝ }
+    ensures header { λ _. ⌜ now (header .exit) ≡ takeOutOf (now (header .entry)) ⌝ }
+{
+    let number = header_reader::refusal(header);
+    if number != 0 {
+        return number;
+    }
+    let values = ac_ones();
+    put_into(header, &values);
+    0
+}
