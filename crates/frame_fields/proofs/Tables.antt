@@ -1,18 +1,18 @@
 -- The table of the bodies in the code, beside the rows of the definition: the same bits, the same record. Assumes nothing.
 use mathlib.Core.Path.{_≡_, refl, sym, ap, ap₂, _∙_, subst}
-use mathlib.Core.Bool.{Bool, true, false, cond, not, _&&_, and-true, and-eq-true-iff}
-use mathlib.Core.List.{List, [], _∷_, _++_, append-assoc}
+use mathlib.Core.Bool.{Bool, true, false, not, _&&_, and-true, and-eq-true-iff}
+use mathlib.Core.List.{List, [], _∷_, _++_, append-assoc, append-nil}
 use Prim.Native.Nat.{ℕ, zero, suc, _+_, _-_, _*_, _^_, _≤_, _<_}
 use native.Mathlib.Omega.{arith}
-use lib.Dec.{eqb, ltb}
-use lib.ListN.{length, getD, take, drop, set, length-drop}
-use lib.Seq.{paste, take-nil, take-take, take-all, drop-at, take-add, drop-drop, length-take-le}
-use borrow.Author.Tests.{eqb-true, eqb-false, eq-eqb, ne-eqb, ltb-true, not-true, not-false}
+use lib.Dec.{eqb, leb, ltb}
+use lib.ListN.{length, getD, take, drop, set, replicate, length-append, length-drop, drop-of-length-le}
+use lib.Seq.{paste, take-nil, take-take, take-all, drop-at, take-at, take-add, take-append-le, drop-drop, length-take-le}
+use borrow.Author.Tests.{eqb-true, eqb-false, eq-eqb, ne-eqb, ltb-true, leb-true, not-true, not-false}
 use Rattle.bits.specs.Bits.{odd, value, bitsOf, bits}
-use Rattle.bits.specs.Field.{fieldAt, within, getOf, putOf}
+use Rattle.bits.specs.Field.{fieldAt, putOf}
 use Rattle.bits.specs.Layout.{pack, unpack, sum, Layout, layoutb}
 use Rattle.bits.specs.Segment.{fixedOnes, segment, widths, freeWidths, holds, fixedHold, free, withFixed, packSegments, unpackSegments, fixedBitsHold}
-use Rattle.bits.proofs.Bits.{length-bitsOf, length-bits, value-take-lt, value-append}
+use Rattle.bits.proofs.Bits.{length-bitsOf, length-bits, bits-drop, bits-append, bits-take, value-take-lt, value-append}
 use Rattle.bits.proofs.Field.{within-room, bits-putOf, length-putOf}
 use Rattle.bits.proofs.Layouts.{layoutb-layout}
 use Rattle.frame.specs.Body.{row, layout, ownUpdate}
@@ -21,57 +21,95 @@ use Rattle.frame.specs.declared.Body.{Body}
 use Rattle.frame.specs.declared.Body.the-variants.{AreaPage, PlacePage, CancelPage, NoInformation}
 use Rattle.frame.specs.declared.Record.{Record}
 use Rattle.frame.proofs.Bodies.{layout-sum, length-fieldWidths}
-use Rattle.frame_fields.specs.Table.{onesBefore, onesAfter, detailWidths, detailValues, onesHold, detailsOf}
+use Rattle.frame_fields.specs.Table.{spanOf, between, fieldsRead, onesHold, onesWritten, detailsOf}
 use Rattle.frame_fields.specs.declared.Details.{Details}
+use Rattle.frame_fields.specs.declared.Span.{Span}
 
--- what is to be seen of a body: the widths find room in 11 bytes, and the bits fixed at 1 after them are all the rest
+-- ---- what is to be seen of a body
+
+-- its widths find room after the bytes before them, with the bits after them they are all 88, and its fields are of the record
 rightTable : Body → Bool
-rightTable b = layoutb (detailWidths b) 11 && (eqb (sum (detailWidths b) + onesAfter b) 88 && ltb (onesAfter b) 64)
+rightTable b =
+    let s = spanOf b in
+    let ws = between (s .from) (s .to) (fieldWidths b) in
+    layoutb ws (11 - s .before)
+    && (eqb (8 * s .before + sum ws + s .after) 88 && (ltb (s .after) 64 && (leb (s .before) 7 && (leb (s .from) (s .to) && leb (s .to) fieldCount))))
 
 right-table : (b : Body) → rightTable b ≡ true
-unfolding rightTable row layout scatter fieldWidths freeWidths onesBefore onesAfter detailWidths sum
+unfolding rightTable row layout scatter fieldWidths freeWidths spanOf sum
 right-table AreaPage = refl
 right-table PlacePage = refl
 right-table CancelPage = refl
 right-table NoInformation = refl
 
-module _ (b : Body) where
-  found : Layout (detailWidths b) 11 × ((sum (detailWidths b) + onesAfter b ≡ 88) × (onesAfter b < 64))
-  unfolding rightTable
-  found =
-      let h = and-eq-true-iff (layoutb (detailWidths b) 11) (eqb (sum (detailWidths b) + onesAfter b) 88 && ltb (onesAfter b) 64) .0 (right-table b) in
-      let t = and-eq-true-iff (eqb (sum (detailWidths b) + onesAfter b) 88) (ltb (onesAfter b) 64) .0 (h .1) in
-      (layoutb-layout (detailWidths b) 11 (h .0), (eqb-true (sum (detailWidths b) + onesAfter b) 88 (t .0), ltb-true (onesAfter b) 64 (t .1)))
+-- the same as facts
+pub record Right (b : Body) : Type 0 where
+  pub room : Layout (between (spanOf b .from) (spanOf b .to) (fieldWidths b)) (11 - spanOf b .before)
+  pub all : 8 * spanOf b .before + sum (between (spanOf b .from) (spanOf b .to) (fieldWidths b)) + spanOf b .after ≡ 88
+  pub after : spanOf b .after < 64
+  pub before : spanOf b .before ≤ 7
+  pub ordered : spanOf b .from ≤ spanOf b .to
+  pub within : spanOf b .to ≤ fieldCount
 
-  pub after-lt : onesAfter b < 64
-  after-lt = found .1 .1
+pub right : (b : Body) → Right b
+unfolding rightTable
+right b =
+    let s = spanOf b in
+    let ws = between (s .from) (s .to) (fieldWidths b) in
+    let n = 8 * s .before + sum ws + s .after in
+    let h1 = and-eq-true-iff (layoutb ws (11 - s .before)) (eqb n 88 && (ltb (s .after) 64 && (leb (s .before) 7 && (leb (s .from) (s .to) && leb (s .to) fieldCount)))) .0 (right-table b) in
+    let h2 = and-eq-true-iff (eqb n 88) (ltb (s .after) 64 && (leb (s .before) 7 && (leb (s .from) (s .to) && leb (s .to) fieldCount))) .0 (h1 .1) in
+    let h3 = and-eq-true-iff (ltb (s .after) 64) (leb (s .before) 7 && (leb (s .from) (s .to) && leb (s .to) fieldCount)) .0 (h2 .1) in
+    let h4 = and-eq-true-iff (leb (s .before) 7) (leb (s .from) (s .to) && leb (s .to) fieldCount) .0 (h3 .1) in
+    let h5 = and-eq-true-iff (leb (s .from) (s .to)) (leb (s .to) fieldCount) .0 (h4 .1) in
+    record {
+      room = layoutb-layout ws (11 - s .before) (h1 .0);
+      all = eqb-true n 88 (h2 .0);
+      after = ltb-true (s .after) 64 (h3 .0);
+      before = leb-true (s .before) 7 (h4 .0);
+      ordered = leb-true (s .from) (s .to) (h5 .0);
+      within = leb-true (s .to) fieldCount (h5 .1);
+    }
 
-  pub before-lt : onesBefore b < 64
-  unfolding detailWidths
-  before-lt = found .0 .narrow 0
+-- and of the numbers that the code has for it
+pub record Bounded (s : Span) : Type 0 where
+  pub before : s .before ≤ 7
+  pub after : s .after < 64
+  pub ordered : s .from ≤ s .to
+  pub within : s .to ≤ 18
 
-  pub room : (ws : List ℕ) (n : ℕ) → ws ≡ detailWidths b → 11 ≤ n → Layout ws n
-  room ws n e h =
-      let l = subst (λ (k : List ℕ). Layout k 11) (sym e) (found .0) in
-      record { narrow = l .narrow; room = omega (arith, l .room); short = l .short }
+pub bounded : (b : Body) {s : Span} → s ≡ spanOf b → Bounded s
+bounded b e =
+    let h = right b in
+    subst Bounded (sym e) (record { before = h .before; after = h .after; ordered = h .ordered; within = h .within })
 
-  pub widths-count : (ws : List ℕ) → ws ≡ detailWidths b → length ws ≡ fieldCount
-  unfolding detailWidths
-  widths-count ws e = ap length e ∙ omega (arith, length-drop 4 (fieldWidths b), length-fieldWidths b)
+pub length-widths : (b : Body) {ws : List ℕ} → ws ≡ fieldWidths b → length ws ≡ fieldCount
+length-widths b e = ap length e ∙ length-fieldWidths b
 
--- the record in the widths' order
+-- ---- the same bits
+
+-- the record, field by field
 record-read : (b : Body) (x p i u : ℕ) (d : List Bool)
-    → recordOf b x p i u (unpackSegments (layout b) d) ≡ recordFrom (x ∷ p ∷ i ∷ ownUpdate b u ∷ unpack (drop 4 (fieldWidths b)) (drop (onesBefore b) d))
-unfolding row layout scatter fieldWidths freeWidths widths free unpack value onesBefore recordOf
+    → recordOf b x p i u (unpackSegments (layout b) d) ≡ recordFrom (x ∷ p ∷ i ∷ ownUpdate b u ∷ drop 4 (fieldsRead b d))
+unfolding row layout scatter fieldWidths freeWidths widths free unpack value spanOf fieldsRead recordOf
 record-read AreaPage x p i u d = refl
 record-read PlacePage x p i u d = refl
 record-read CancelPage x p i u d = refl
 record-read NoInformation x p i u d = refl
 
--- the bits of a record, and those fixed at 1 after them
-details-packed : (b : Body) (r : Record)
-    → pack (detailWidths b) (detailValues b r) ++ bitsOf (onesAfter b) (2 ^ onesAfter b - 1) ≡ packSegments (layout b) (bodyValues b r)
-unfolding row layout scatter gather fieldWidths freeWidths widths withFixed pack odd bitsOf onesBefore onesAfter detailWidths detailValues bodyValues
+length-read : (b : Body) (d : List Bool) → length (fieldsRead b d) ≡ fieldCount
+unfolding row layout scatter fieldWidths freeWidths unpack spanOf fieldsRead
+length-read AreaPage d = refl
+length-read PlacePage d = refl
+length-read CancelPage d = refl
+length-read NoInformation d = refl
+
+-- the bits of a record, after those fixed at 1 and before the others
+details-packed : (b : Body) (r : Record) → let s = spanOf b in
+    bitsOf (8 * s .before) (2 ^ (8 * s .before) - 1)
+    ++ (pack (between (s .from) (s .to) (fieldWidths b)) (between (s .from) (s .to) (fields r)) ++ bitsOf (s .after) (2 ^ s .after - 1))
+    ≡ packSegments (layout b) (bodyValues b r)
+unfolding row layout scatter gather fieldWidths freeWidths widths withFixed pack odd bitsOf spanOf bodyValues
 details-packed AreaPage r = refl
 details-packed PlacePage r = refl
 details-packed CancelPage r = refl
@@ -101,8 +139,8 @@ after-cancel : (d : List Bool) → drop 1 (drop 9 (drop 1 (drop 1 (drop 1 (drop 
 after-cancel d = simp drop-drop
 
 -- the bits fixed at 1, before the fields and after them
-fixed-bits : (b : Body) (d : List Bool) → 88 ≤ length d → fixedBitsHold (layout b) d ≡ onesHold b (value (take (onesBefore b) d)) d
-unfolding row layout widths unpack value fixedHold onesBefore onesAfter onesHold
+fixed-bits : (b : Body) (d : List Bool) → 88 ≤ length d → fixedBitsHold (layout b) d ≡ onesHold b d
+unfolding row layout widths unpack value fixedHold spanOf onesHold
 fixed-bits AreaPage d e = refl
 fixed-bits PlacePage d e =
     and-true _ ∙ ap (λ (l : List Bool). eqb (value (take 1 l)) 1) (after-place d)
@@ -125,32 +163,6 @@ set-four (p ∷ q ∷ r ∷ s ∷ l) a b c d h = refl
 
 -- ---- what the functions answer
 
--- a field that lies in the bytes
-got : (s : List ℕ) (k w n : ℕ) → within (length s) k w ≡ true → n ≡ getOf s k w → n ≡ fieldAt s k w
-got s k w n t e = e ∙ ap (λ b. cond b (fieldAt s k w) 0) t
-
-module _ (b : Body) (v : ℕ) {n : ℕ} {t : Bool} (en : n ≡ onesBefore b) (et : t ≡ holds (segment 1 n) v) where
-  before-holds : holds (fixedOnes (onesBefore b)) v ≡ t
-  before-holds = ap (λ (k : ℕ). holds (fixedOnes k) v) (sym en) ∙ sym et
-
-  pub ones-missing : (d : List Bool) → not t ≡ true → false ≡ onesHold b v d
-  unfolding onesHold
-  ones-missing d e = rw (before-holds, not-true t e)
-
-  pub ones-last : (s : List ℕ) {a g : ℕ} {last : Bool} → 11 ≤ length s → not t ≡ false → a ≡ onesAfter b → g ≡ getOf s (88 - a) a → last ≡ holds (segment 1 a) g
-      → last ≡ onesHold b v (bits s)
-  unfolding onesHold
-  ones-last s {a} {g} h e ea eg el =
-      let l : onesAfter b < 64 = after-lt b in
-      let w = within-room (length s) (88 - a) a (omega arith) (omega arith) in
-      let q : g ≡ fieldAt s (88 - onesAfter b) (onesAfter b) = got s (88 - a) a g w eg ∙ ap (λ (k : ℕ). fieldAt s (88 - k) k) ea in
-      rw (before-holds, not-false t e) (el ∙ ap₂ (λ (k x : ℕ). holds (fixedOnes k) x) ea q)
-
-pub widths-made : (b : Body) (ws : List ℕ) (n : ℕ) → ws ≡ fieldWidths b → n ≡ onesBefore b → set (set (set (set ws 0 n) 1 0) 2 0) 3 0 ≡ detailWidths b
-unfolding detailWidths
-widths-made b ws n ew en =
-    ap₂ (λ (l : List ℕ) (k : ℕ). set (set (set (set l 0 k) 1 0) 2 0) 3 0) ew en ∙ set-four (fieldWidths b) (onesBefore b) 0 0 0 (omega (arith, length-fieldWidths b))
-
 drop-take : (w k n : ℕ) (l : List Bool) → n ≡ w + k → drop w (take n l) ≡ take k (drop w l)
 drop-take zero k n l e = let z : n ≡ k = omega (arith, e) in ap (λ (m : ℕ). take m l) z
 drop-take (suc w) k zero l e = absurd (omega arith)
@@ -172,52 +184,191 @@ details-front b x p i u d =
     ap (λ (vs : List ℕ). record { holds = fixedHold (layout b) vs; contents = recordOf b x p i u (free (layout b) vs) })
     (sym (unpack-front (widths (layout b)) 88 d (omega (arith, layout-sum b))))
 
-pub details-read : (b : Body) (x p i u : ℕ) (d : List Bool) {ws v : List ℕ} {t : Bool} {o : ℕ} {r : Record} → 88 ≤ length d → ws ≡ detailWidths b → v ≡ unpack ws d
-    → t ≡ onesHold b (getD v 0 0) d → o ≡ ownUpdate b u → r ≡ recordFrom (set (set (set (set v 0 x) 1 p) 2 i) 3 o)
+module _ (b : Body) {s : Span} (es : s ≡ spanOf b) where
+  before-holds : (d : List Bool) {n v : ℕ} {t : Bool} → n ≡ 8 * s .before → v ≡ value (take n d) → t ≡ holds (segment 1 n) v
+      → holds (fixedOnes (8 * spanOf b .before)) (value (take (8 * spanOf b .before) d)) ≡ t
+  before-holds d {n} en ev et =
+      let e : 8 * spanOf b .before ≡ n = sym (en ∙ ap (λ (k : Span). 8 * k .before) es) in
+      ap (λ (k : ℕ). holds (fixedOnes k) (value (take k d))) e ∙ sym (et ∙ ap (holds (fixedOnes n)) ev)
+
+  pub ones-missing : (d : List Bool) {n v : ℕ} {t : Bool} → n ≡ 8 * s .before → v ≡ value (take n d) → t ≡ holds (segment 1 n) v → not t ≡ true → false ≡ onesHold b d
+  unfolding onesHold
+  ones-missing d {n} {v} {t} en ev et e = rw (before-holds d en ev et, not-true t e)
+
+  pub ones-last : (d : List Bool) {n v a g : ℕ} {t last : Bool} → n ≡ 8 * s .before → v ≡ value (take n d) → t ≡ holds (segment 1 n) v → not t ≡ false
+      → a ≡ s .after → g ≡ value (take a (drop (88 - a) d)) → last ≡ holds (segment 1 a) g → last ≡ onesHold b d
+  unfolding onesHold
+  ones-last d {n} {v} {a} {g} {t} en ev et e ea eg el =
+      let k : a ≡ spanOf b .after = ea ∙ ap (λ (k : Span). k .after) es in
+      rw (before-holds d en ev et, not-false t e) (el ∙ ap (holds (fixedOnes a)) eg ∙ ap (λ (i : ℕ). holds (fixedOnes i) (value (take i (drop (88 - i) d)))) k)
+
+pub details-read : (b : Body) (x p i u : ℕ) (d : List Bool) {v : List ℕ} {t : Bool} {o : ℕ} {r : Record} → 88 ≤ length d → t ≡ onesHold b d → v ≡ fieldsRead b d
+    → o ≡ ownUpdate b u → r ≡ recordFrom (set (set (set (set v 0 x) 1 p) 2 i) 3 o)
     → _≡_ {A = Details} (record { holds = t; contents = r }) (detailsOf b x p i u (take 88 d))
-unfolding detailWidths detailsOf unpack
-details-read b x p i u d {ws} {v} n ew ev et eo er =
-    let e : v ≡ unpack (detailWidths b) d = ev ∙ ap (λ (l : List ℕ). unpack l d) ew in
+unfolding detailsOf
+details-read b x p i u d {v} n et ev eo er =
     ap₂ (λ (s : Bool) (y : Record). record { holds = s; contents = y })
-    (et ∙ ap (λ (l : List ℕ). onesHold b (getD l 0 0) d) e ∙ sym (fixed-bits b d n))
-    (er ∙ ap₂ (λ (l : List ℕ) (k : ℕ). recordFrom (set (set (set (set l 0 x) 1 p) 2 i) 3 k)) e eo ∙ sym (record-read b x p i u d))
+    (et ∙ sym (fixed-bits b d n))
+    (er
+    ∙ ap₂ (λ (l : List ℕ) (k : ℕ). recordFrom (set (set (set (set l 0 x) 1 p) 2 i) 3 k)) ev eo
+    ∙ ap recordFrom (set-four (fieldsRead b d) x p i (ownUpdate b u) (omega (arith, length-read b d)))
+    ∙ sym (record-read b x p i u d))
     ∙ details-front b x p i u d
 
-pub room-after-put : (b : Body) (s : List ℕ) (k a n : ℕ) {ws m : List ℕ} → ws ≡ detailWidths b → 11 ≤ length s → m ≡ putOf s k a n → Layout ws (length m)
-room-after-put b s k a n {ws} {m} ew h em = room b ws (length m) ew (omega (arith, ap length em, length-putOf s k a n))
+-- as many elements as there are between two indices
+length-between : (m n k : ℕ) (l : List ℕ) → m ≤ n → n ≤ k → length l ≡ k → length (between m n l) ≡ n - m
+length-between m n k l h g e = length-take-le (n - m) (drop m l) (omega (arith, length-drop m l))
 
-pub values-made : (b : Body) (r : Record) {l : List ℕ} {n k : ℕ} → l ≡ fields r → n ≡ onesBefore b → k ≡ 2 ^ n → set l 0 (k - 1) ≡ detailValues b r
-unfolding detailValues
-values-made b r el en ek = ap₂ (λ (x : List ℕ) (i : ℕ). set x 0 (i - 1)) el (ek ∙ ap (2 ^_) en)
+module _ (b : Body) (s : List ℕ) {sp : Span} {ws : List ℕ} (es : sp ≡ spanOf b) (ew : ws ≡ fieldWidths b) (h : 11 ≤ length s) where
+  -- what is left of the bytes after those fixed at 1
+  pub rest : List ℕ
+  rest = take (length s - sp .before) (drop (sp .before) s)
 
-pub values-count : (b : Body) (r : Record) (ws v : List ℕ) → ws ≡ detailWidths b → v ≡ detailValues b r → length v ≡ length ws
-unfolding detailValues
-values-count b r ws v ew ev = ap length ev ∙ sym (widths-count b ws ew)
+  length-rest : length rest ≡ length s - sp .before
+  unfolding rest
+  length-rest = length-take-le (length s - sp .before) (drop (sp .before) s) (omega (arith, length-drop (sp .before) s))
 
--- the bits fixed at 1 after the fields, put first, and then all others
+  bits-rest : bits rest ≡ drop (8 * sp .before) (bits s)
+  unfolding rest
+  bits-rest =
+      ap bits (take-all (length s - sp .before) (drop (sp .before) s) (omega (arith, length-drop (sp .before) s)))
+      ∙ sym (bits-drop (sp .before) s (omega (arith, bounded b es .before)))
+
+  pub room-in : Layout (between (sp .from) (sp .to) ws) (length (take (length s - sp .before) (drop (sp .before) s)))
+  unfolding rest
+  room-in =
+      let l = subst (λ (k : Span). Layout (between (k .from) (k .to) (fieldWidths b)) (11 - k .before)) (sym es) (right b .room) in
+      let m = subst (λ (k : List ℕ). Layout (between (sp .from) (sp .to) k) (11 - sp .before)) (sym ew) l in
+      record { narrow = m .narrow; room = omega (arith, m .room, length-rest, bounded b es .before); short = m .short }
+
+  pub count-in : (l : List ℕ) → length l ≡ fieldCount → length (between (sp .from) (sp .to) l) ≡ length (between (sp .from) (sp .to) ws)
+  count-in l e =
+      let o = bounded b es in
+      length-between (sp .from) (sp .to) 18 l (o .ordered) (o .within) e
+      ∙ sym (length-between (sp .from) (sp .to) 18 ws (o .ordered) (o .within) (length-widths b ew))
+
+  pub fields-found : {last : List ℕ} → last ≡ unpack (between (sp .from) (sp .to) ws) (bits (take (length s - sp .before) (drop (sp .before) s)))
+      → let z : List ℕ = replicate fieldCount 0 in take (sp .from) z ++ (last ++ drop (sp .to - sp .from) (drop (sp .from) z)) ≡ fieldsRead b (bits s)
+  unfolding fieldsRead rest
+  fields-found e =
+      let z : List ℕ = replicate fieldCount 0 in
+      let to : sp .from + (sp .to - sp .from) ≡ sp .to = omega (arith, bounded b es .ordered) in
+      ap₂ (λ (x y : List ℕ). take (sp .from) z ++ (x ++ y))
+      (e ∙ ap₂ (λ (l : List ℕ) (d : List Bool). unpack (between (sp .from) (sp .to) l) d) ew bits-rest)
+      (drop-drop (sp .to - sp .from) (sp .from) z ∙ ap (λ (n : ℕ). drop n z) to)
+      ∙ ap (λ (k : Span). take (k .from) z ++ (unpack (between (k .from) (k .to) (fieldWidths b)) (drop (8 * k .before) (bits s)) ++ drop (k .to) z)) es
+
+pub ones-put : (b : Body) (s : List ℕ) {sp : Span} {n m : ℕ} {t u : List ℕ} → sp ≡ spanOf b → n ≡ 2 ^ (8 * sp .before) → t ≡ putOf s 0 (8 * sp .before) (n - 1)
+    → m ≡ 2 ^ sp .after → u ≡ putOf t (88 - sp .after) (sp .after) (m - 1) → u ≡ onesWritten b s
+unfolding onesWritten
+ones-put b s {sp} {n} {m} {t} es en et em eu =
+    eu
+    ∙ ap₂ (λ (x : List ℕ) (y : ℕ). putOf x (88 - sp .after) (sp .after) (y - 1)) (et ∙ ap (λ (y : ℕ). putOf s 0 (8 * sp .before) (y - 1)) en) em
+    ∙ ap (λ (k : Span). putOf (putOf s 0 (8 * k .before) (2 ^ (8 * k .before) - 1)) (88 - k .after) (k .after) (2 ^ k .after - 1)) es
+
+length-ones : (b : Body) (s : List ℕ) → length (onesWritten b s) ≡ length s
+unfolding onesWritten
+length-ones b s =
+    let n = 8 * spanOf b .before in
+    let m = spanOf b .after in length-putOf (putOf s 0 n (2 ^ n - 1)) (88 - m) m (2 ^ m - 1) ∙ length-putOf s 0 n (2 ^ n - 1)
+
+pub room-kept : (b : Body) (s : List ℕ) {t : List ℕ} → 11 ≤ length s → t ≡ onesWritten b s → 11 ≤ length t
+room-kept b s h e = omega (arith, ap length e, length-ones b s)
+
+-- what stands in the place of a field that was put
 put-after : (l x : List Bool) (k a : ℕ) → k ≤ length l → length x ≡ a → drop k (paste l k x a) ≡ x ++ drop (k + a) l
 put-after l x k a h e =
     ap (drop k) (append-assoc (take k l) (take a x) (drop (k + a) l))
     ∙ drop-at (take k l) (take a x ++ drop (k + a) l) k (length-take-le k l h)
     ∙ ap (_++ drop (k + a) l) (take-all a x (omega (arith, e)))
 
-pub details-written : (b : Body) (r : Record) (s : List ℕ) {a n : ℕ} {ws v m : List ℕ} {out : List Bool} → 11 ≤ length s → a ≡ onesAfter b → n ≡ 2 ^ a - 1
-    → m ≡ putOf s (88 - a) a n → ws ≡ detailWidths b → v ≡ detailValues b r → out ≡ pack ws v ++ drop (sum ws) (bits m)
-    → out ≡ packSegments (layout b) (bodyValues b r) ++ drop 88 (bits s)
-details-written b r s {a} {n} {ws} {v} {m} h ea en em ew ev eo =
-    let l : onesAfter b < 64 = after-lt b in
-    let k = 88 - onesAfter b in
-    let x = bitsOf (onesAfter b) (2 ^ onesAfter b - 1) in
-    let all : k + onesAfter b ≡ 88 = omega arith in
-    let es : sum ws ≡ k = ap sum ew ∙ omega (arith, found b .1 .0) in
-    let eb : bits m ≡ paste (bits s) k x (onesAfter b) =
-    ap bits em
-    ∙ bits-putOf s (88 - a) a n (within-room (length s) (88 - a) a (omega arith) (omega arith))
-    ∙ ap₂ (λ (i y : ℕ). paste (bits s) (88 - i) (bitsOf i y) i) ea (en ∙ ap (λ (i : ℕ). 2 ^ i - 1) ea) in
-    eo
-    ∙ ap₂ (λ (c : List Bool) (d : List Bool). c ++ d) (ap₂ pack ew ev)
-    (ap₂ (λ (i : ℕ) (c : List Bool). drop i c) es eb
-    ∙ put-after (bits s) x k (onesAfter b) (omega (arith, length-bits s)) (length-bitsOf (onesAfter b) (2 ^ onesAfter b - 1))
-    ∙ ap (λ (i : ℕ). x ++ drop i (bits s)) all)
-    ∙ sym (append-assoc (pack (detailWidths b) (detailValues b r)) x (drop 88 (bits s)))
-    ∙ ap (_++ drop 88 (bits s)) (details-packed b r)
+module _ (b : Body) (s : List ℕ) (h : 11 ≤ length s) where
+  n : ℕ
+  n = 8 * spanOf b .before
+
+  m : ℕ
+  m = spanOf b .after
+
+  x : List Bool
+  x = bitsOf n (2 ^ n - 1)
+
+  y : List Bool
+  y = bitsOf m (2 ^ m - 1)
+
+  t : List ℕ
+  t = putOf s 0 n (2 ^ n - 1)
+
+  first-bits : bits t ≡ x ++ drop n (bits s)
+  unfolding n x t
+  first-bits =
+      bits-putOf s 0 n (2 ^ n - 1) (within-room (length s) 0 n (omega (arith, right b .before)) (omega (arith, right b .before)))
+      ∙ put-after (bits s) x 0 n (omega arith) (length-bitsOf n (2 ^ n - 1))
+      ∙ ap (λ (k : ℕ). x ++ drop k (bits s)) (let z : 0 + n ≡ n = omega arith in z)
+
+  ones-bits : bits (onesWritten b s) ≡ paste (x ++ drop n (bits s)) (88 - m) y m
+  unfolding n m x y t onesWritten
+  ones-bits =
+      bits-putOf t (88 - m) m (2 ^ m - 1)
+      (within-room (length t) (88 - m) m (omega (arith, right b .after)) (omega (arith, right b .after, length-putOf s 0 n (2 ^ n - 1))))
+      ∙ ap (λ (l : List Bool). paste l (88 - m) y m) first-bits
+
+  -- the bits before the fields, and those from after them on
+  ones-first : take n (bits (onesWritten b s)) ≡ x
+  unfolding n m x y
+  ones-first =
+      let l = x ++ drop n (bits s) in
+      let lx : length x ≡ n = length-bitsOf n (2 ^ n - 1) in
+      let ll : length l ≡ 8 * length s = length-append x (drop n (bits s)) ∙ omega (arith, lx, length-drop n (bits s), length-bits s, right b .before) in
+      let k : n ≤ 88 - m = omega (arith, right b .all) in
+      ap (take n) (ones-bits ∙ append-assoc (take (88 - m) l) (take m y) (drop (88 - m + m) l))
+      ∙ take-append-le n (take (88 - m) l) (take m y ++ drop (88 - m + m) l) (omega (arith, length-take-le (88 - m) l (omega (arith, ll))))
+      ∙ take-take n (88 - m) l k
+      ∙ take-at x (drop n (bits s)) n lx
+
+  ones-rest : drop (88 - m) (bits (onesWritten b s)) ≡ y ++ drop 88 (bits s)
+  unfolding n m x y
+  ones-rest =
+      let l = x ++ drop n (bits s) in
+      let lx : length x ≡ n = length-bitsOf n (2 ^ n - 1) in
+      let ll : length l ≡ 8 * length s = length-append x (drop n (bits s)) ∙ omega (arith, lx, length-drop n (bits s), length-bits s, right b .before) in
+      let k : 88 - m + m ≡ n + (88 - n) = omega (arith, right b .after, right b .before) in
+      let j : n + (88 - n) ≡ 88 = omega (arith, right b .before) in
+      ap (drop (88 - m)) ones-bits
+      ∙ put-after l y (88 - m) m (omega (arith, ll)) (length-bitsOf m (2 ^ m - 1))
+      ∙ ap (λ (i : ℕ). y ++ drop i l) k
+      ∙ ap (y ++_)
+      (sym (drop-drop (88 - n) n l)
+      ∙ ap (drop (88 - n)) (drop-at x (drop n (bits s)) n lx)
+      ∙ drop-drop (88 - n) n (bits s)
+      ∙ ap (λ (i : ℕ). drop i (bits s)) j)
+
+  module _ (r : Record) (last : List ℕ) {sp : Span} {ws v w out : List ℕ} (es : sp ≡ spanOf b) (ew : ws ≡ fieldWidths b) (ev : v ≡ fields r) (eo : w ≡ onesWritten b s)
+      (el : bits last ≡ pack (between (sp .from) (sp .to) ws) (between (sp .from) (sp .to) v)
+      ++ drop (sum (between (sp .from) (sp .to) ws)) (bits (take (length w - sp .before) (drop (sp .before) w)))) where
+    pub details-written : out ≡ take (sp .before) w ++ (last ++ drop (length w - sp .before) (drop (sp .before) w))
+        → bits out ≡ packSegments (layout b) (bodyValues b r) ++ drop 88 (bits s)
+    unfolding n m x y rest
+    details-written e =
+        let lw : 11 ≤ length w = room-kept b s h eo in
+        let k = sp .before in
+        let o = bounded b es in
+        let fs = between (spanOf b .from) (spanOf b .to) (fieldWidths b) in
+        let gs = between (spanOf b .from) (spanOf b .to) (fields r) in
+        let none : drop (length w - k) (drop k w) ≡ [] = drop-of-length-le (drop k w) {i = length w - k} (omega (arith, length-drop k w)) in
+        let before : bits (take k w) ≡ x =
+        sym (bits-take k w (omega (arith, o .before))) ∙ ap₂ (λ (i : ℕ) (z : List ℕ). take i (bits z)) (ap (λ (q : Span). 8 * q .before) es) eo ∙ ones-first in
+        let all : n + sum fs ≡ 88 - m = omega (arith, right b .all) in
+        let after : bits last ≡ pack fs gs ++ (y ++ drop 88 (bits s)) =
+        el
+        ∙ ap₂ (λ (f g : List ℕ). pack (between (sp .from) (sp .to) f) (between (sp .from) (sp .to) g)
+        ++ drop (sum (between (sp .from) (sp .to) f)) (bits (take (length w - k) (drop k w)))) ew ev
+        ∙ ap (λ (d : List Bool). pack (between (sp .from) (sp .to) (fieldWidths b)) (between (sp .from) (sp .to) (fields r))
+        ++ drop (sum (between (sp .from) (sp .to) (fieldWidths b))) d) (bits-rest b w es ew lw)
+        ∙ ap (λ (q : Span). pack (between (q .from) (q .to) (fieldWidths b)) (between (q .from) (q .to) (fields r))
+        ++ drop (sum (between (q .from) (q .to) (fieldWidths b))) (drop (8 * q .before) (bits w))) es
+        ∙ ap (pack fs gs ++_) (drop-drop (sum fs) n (bits w) ∙ ap₂ (λ (i : ℕ) (z : List ℕ). drop i (bits z)) all eo ∙ ones-rest) in
+        ap bits (e ∙ ap (λ (z : List ℕ). take k w ++ (last ++ z)) none ∙ ap (take k w ++_) (append-nil last))
+        ∙ bits-append (take k w) last
+        ∙ ap₂ (λ (f g : List Bool). f ++ g) before after
+        ∙ sym (append-assoc x (pack fs gs ++ y) (drop 88 (bits s)) ∙ ap (x ++_) (append-assoc (pack fs gs) y (drop 88 (bits s))))
+        ∙ ap (_++ drop 88 (bits s)) (details-packed b r)

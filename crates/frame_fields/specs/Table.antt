@@ -1,16 +1,18 @@
 -- A body as the code has it, and what its details hold. No promise speaks of these. Assumes nothing.
 use mathlib.Core.Bool.{Bool, _&&_}
-use mathlib.Core.List.{List, [], _∷_}
-use Prim.Native.Nat.{ℕ, _+_, _-_, _^_}
-use lib.ListN.{take, drop, set}
+use mathlib.Core.List.{List, [], _∷_, _++_}
+use Prim.Native.Nat.{ℕ, suc, _+_, _-_, _*_, _/_, _^_}
+use lib.ListN.{getD, take, drop, replicate}
 use Rattle.bits.specs.Bits.{value}
+use Rattle.bits.specs.Field.{putOf}
+use Rattle.bits.specs.Layout.{unpack}
 use Rattle.bits.specs.Segment.{fixedOnes, holds, unpackSegments, fixedBitsHold}
 use Rattle.frame.specs.Entry.{Entry, held, ones}
-use Rattle.frame.specs.Body.{row, layout}
-use Rattle.frame.specs.Fields.{fields, fieldWidths, recordOf}
+use Rattle.frame.specs.Body.{row, layout, indices}
+use Rattle.frame.specs.Fields.{fieldCount, fieldWidths, recordOf}
 use Rattle.frame.specs.declared.Body.{Body}
-use Rattle.frame.specs.declared.Record.{Record}
 use Rattle.frame_fields.specs.declared.Details.{Details}
+use Rattle.frame_fields.specs.declared.Span.{Span}
 
 -- the bits of a row that are fixed at 1: all of them, and those before its fields
 abbrev pub onesIn : List Entry → ℕ
@@ -23,24 +25,44 @@ leadingOnes [] = 0
 leadingOnes (held k w ∷ l) = 0
 leadingOnes (ones w ∷ l) = w + leadingOnes l
 
--- those of a body before its fields, and all others
-unfoldable pub onesBefore : Body → ℕ
-onesBefore b = leadingOnes (row b)
+-- the last of some indices
+abbrev pub lastOf : List ℕ → ℕ
+lastOf [] = 0
+lastOf (k ∷ []) = k
+lastOf (k ∷ j ∷ l) = lastOf (j ∷ l)
 
-unfoldable pub onesAfter : Body → ℕ
-onesAfter b = onesIn (row b) - leadingOnes (row b)
+-- where a body's fields stand
+unfoldable pub spanOf : Body → Span
+spanOf b =
+    record {
+      from = getD (indices b) 0 0;
+      to = suc (lastOf (indices b));
+      before = leadingOnes (row b) / 8;
+      after = onesIn (row b) - leadingOnes (row b);
+    }
 
--- the bits of each field in the details: none of the four that stand before them, in whose first place are the bits fixed at 1 before the others
-unfoldable pub detailWidths : Body → List ℕ
-detailWidths b = onesBefore b ∷ 0 ∷ 0 ∷ 0 ∷ drop 4 (fieldWidths b)
+-- the elements from index m up to index n
+abbrev pub between : (m n : ℕ) → List ℕ → List ℕ
+between m n l = take (n - m) (drop m l)
 
--- and what a record puts into them
-unfoldable pub detailValues : Body → Record → List ℕ
-detailValues b r = set (fields r) 0 (2 ^ onesBefore b - 1)
+-- the values in the details d, each at its field's index, and 0 for every other field
+unfoldable pub fieldsRead : Body → List Bool → List ℕ
+fieldsRead b d =
+    let s = spanOf b in
+    take (s .from) (replicate fieldCount 0)
+    ++ (unpack (between (s .from) (s .to) (fieldWidths b)) (drop (8 * s .before) d) ++ drop (s .to) (replicate fieldCount 0))
 
--- the bits fixed at 1 are all 1: those before the fields, which are the number v, and those after them, of the details d
-unfoldable pub onesHold : Body → ℕ → List Bool → Bool
-onesHold b v d = holds (fixedOnes (onesBefore b)) v && holds (fixedOnes (onesAfter b)) (value (take (onesAfter b) (drop (88 - onesAfter b) d)))
+-- the bits fixed at 1 are all 1: those before the fields and those after them
+unfoldable pub onesHold : Body → List Bool → Bool
+onesHold b d =
+    holds (fixedOnes (8 * spanOf b .before)) (value (take (8 * spanOf b .before) d))
+    && holds (fixedOnes (spanOf b .after)) (value (take (spanOf b .after) (drop (88 - spanOf b .after) d)))
+
+-- bytes with the bits fixed at 1 put into them
+unfoldable pub onesWritten : Body → List ℕ → List ℕ
+onesWritten b s =
+    let n = 8 * spanOf b .before in
+    let m = spanOf b .after in putOf (putOf s 0 n (2 ^ n - 1)) (88 - m) m (2 ^ m - 1)
 
 -- the details of a body, with the fields that stand before them
 unfoldable pub detailsOf : Body → (reference pattern identification update : ℕ) → List Bool → Details

@@ -8,7 +8,7 @@ ghost use Rattle.bits.specs.Bits.{bits};
 ghost use Rattle.bits.specs.Segment.{packSegments};
 ghost use Rattle.frame.specs.Body.{layout, ownUpdate};
 ghost use Rattle.frame.specs.Fields.{fieldCount, fields, recordFrom, fieldWidths, bodyValues};
-ghost use Rattle.frame_fields.specs.Table.{onesBefore, onesAfter, detailWidths, detailValues, onesHold, detailsOf};
+ghost use Rattle.frame_fields.specs.Table.{spanOf, fieldsRead, onesHold, onesWritten, detailsOf};
 use frame::Body;
 use frame::FIELDS;
 use frame::Record;
@@ -95,27 +95,43 @@ pub fn field_widths(body: Body) -> [usize; FIELDS]
     }
 }
 
-// How many bits fixed at 1 stand before a body's fields.
-fn ones_before(body: Body) -> usize
-    ensures { λ r. ⌜ r ≡ onesBefore body ⌝ }
-{
-    match body {
-        Body::AreaPage => 0,
-        Body::PlacePage => 0,
-        Body::CancelPage => 0,
-        Body::NoInformation => 32,
-    }
+// Where a body's fields stand: those of the record from index `from` up to index `to`, after so many bytes of bits fixed at 1, and with so many
+// bits fixed at 1 after them.
+struct Span {
+    from: usize,
+    to: usize,
+    before: usize,
+    after: usize,
 }
 
-// How many stand after them.
-fn ones_after(body: Body) -> usize
-    ensures { λ r. ⌜ r ≡ onesAfter body ⌝ }
+fn span_of(body: Body) -> Span
+    ensures { λ r. ⌜ r ≡ spanOf body ⌝ }
 {
     match body {
-        Body::AreaPage => 0,
-        Body::PlacePage => 1,
-        Body::CancelPage => 44,
-        Body::NoInformation => 45,
+        Body::AreaPage => Span {
+            from: 4,
+            to: 7,
+            before: 0,
+            after: 0,
+        },
+        Body::PlacePage => Span {
+            from: 4,
+            to: 17,
+            before: 0,
+            after: 1,
+        },
+        Body::CancelPage => Span {
+            from: 4,
+            to: 11,
+            before: 0,
+            after: 44,
+        },
+        Body::NoInformation => Span {
+            from: 17,
+            to: 18,
+            before: 4,
+            after: 45,
+        },
     }
 }
 
@@ -133,29 +149,33 @@ fn own_update(body: Body, update: u64) -> u64
 
 // ---- the details, B24 to B111: the first 88 bits of a slice. More bytes after them let eight be read at once up to the last field.
 
-// How many bits each field of the record has in the details. The four that stand before the details have none there; in the first one's place
-// are the bits fixed at 1 before the body's fields.
-fn detail_widths(body: Body) -> [usize; FIELDS]
-    ensures { λ r. ⌜ r ≡ detailWidths body ⌝ }
+// The body's fields, each at its index, and 0 for every other.
+fn read_fields(body: Body, details: &[u8]) -> [u64; FIELDS]
+    requires { ⌜ 11 ≤ length (now details) ⌝ }
+    ensures { λ r. ⌜ r ≡ fieldsRead body (bits (now (details .entry))) ⌝ }
 {
-    let mut ws = field_widths(body);
-    ws[0] = ones_before(body);
-    ws[1] = 0;
-    ws[2] = 0;
-    ws[3] = 0;
-    ws
+    let span = span_of(body);
+    let from = span.from;
+    let to = span.to;
+    let before = span.before;
+    let ws = field_widths(body);
+    let mut v = [0; FIELDS];
+    bits::read_all(&details[before..], &ws[from..to], &mut v[from..to]);
+    v
 }
 
-// The bits fixed at 1 are all 1: those before the body's fields, which are given as a number, and those after them.
-fn ones_hold(body: Body, before: u64, details: &[u8]) -> bool
+// The bits fixed at 1 are all 1.
+fn ones_hold(body: Body, details: &[u8]) -> bool
     requires { ⌜ 11 ≤ length (now details) ⌝ }
-    ensures { λ r. ⌜ r ≡ onesHold body before (bits (now (details .entry))) ⌝ }
+    ensures { λ r. ⌜ r ≡ onesHold body (bits (now (details .entry))) ⌝ }
 {
-    if !bits::segment_holds(1, ones_before(body), before) {
+    let span = span_of(body);
+    let before = 8 * span.before;
+    if !bits::segment_holds(1, before, bits::read_wide(details, 0, before)) {
         return false;
     }
-    let after = ones_after(body);
-    bits::segment_holds(1, after, bits::get(details, 88 - after, after))
+    let after = span.after;
+    bits::segment_holds(1, after, bits::read_wide(details, 88 - after, after))
 }
 
 // What the details of a body hold, with the fields that stand before them.
@@ -170,10 +190,8 @@ pub fn read_details(
     requires { ⌜ 11 ≤ length (now details) ⌝ }
     ensures { λ r. ⌜ r ≡ detailsOf body reference pattern identification update (take 88 (bits (now (details .entry)))) ⌝ }
 {
-    let ws = detail_widths(body);
-    let mut v = [0; FIELDS];
-    bits::read_all(details, &ws, &mut v);
-    let holds = ones_hold(body, v[0], details);
+    let holds = ones_hold(body, details);
+    let mut v = read_fields(body, details);
     v[0] = reference;
     v[1] = pattern;
     v[2] = identification;
@@ -184,13 +202,16 @@ pub fn read_details(
     }
 }
 
-// What a record puts into those widths.
-fn detail_values(body: Body, contents: Record) -> [u64; FIELDS]
-    ensures { λ r. ⌜ r ≡ detailValues body contents ⌝ }
+// The bits fixed at 1, in the bytes from B24 on; all others stay.
+fn write_ones(body: Body, part: &mut [u8])
+    requires { ⌜ 11 ≤ length (now part) ⌝ }
+    ensures { λ _. ⌜ now (part .exit) ≡ onesWritten body (now (part .entry)) ⌝ }
 {
-    let mut v = fields_of(contents);
-    v[0] = bits::pow2(ones_before(body)) - 1;
-    v
+    let span = span_of(body);
+    let before = 8 * span.before;
+    bits::put(part, 0, before, bits::pow2(before) - 1);
+    let after = span.after;
+    bits::put(part, 88 - after, after, bits::pow2(after) - 1);
 }
 
 // The details of a record of that body, in the bytes from B24 on; the bits after them stay.
@@ -198,9 +219,12 @@ pub fn write_details(body: Body, contents: Record, part: &mut [u8])
     requires { ⌜ 11 ≤ length (now part) ⌝ }
     ensures { λ _. ⌜ bits (now (part .exit)) ≡ packSegments (layout body) (bodyValues body contents) ++ drop 88 (bits (now (part .entry))) ⌝ }
 {
-    let after = ones_after(body);
-    bits::put(part, 88 - after, after, bits::pow2(after) - 1);
-    let ws = detail_widths(body);
-    let v = detail_values(body, contents);
-    bits::write_all(part, &ws, &v);
+    write_ones(body, part);
+    let span = span_of(body);
+    let from = span.from;
+    let to = span.to;
+    let before = span.before;
+    let ws = field_widths(body);
+    let v = fields_of(contents);
+    bits::write_all(&mut part[before..], &ws[from..to], &v[from..to]);
 }

@@ -1,62 +1,97 @@
 -- `frame_fields::write_details` meets its contract. Assumes nothing.
-use mathlib.Core.Path.{ap}
-use Prim.Native.Nat.{_-_}
-use lib.Pow.{pow-pos}
-use Rattle.frame_fields.proofs.Tables.{after-lt, room-after-put, values-count, details-written}
+use mathlib.Core.Path.{refl, ap}
 use native.Mathlib.Omega.{arith}
+use lib.ListN.{length}
+use denote.Ref.{now}
+use Rattle.frame_fields.proofs.Tables.{bounded, length-widths, room-kept, room-in, count-in, details-written}
 use borrow.Author.Needs.{needs}
 use Rattle.frame_fields.proofs.write_details.Statement.{statement}
 use Rattle.frame_fields.proofs.write_details.Tie as tie
 
-ones-after-requires : tie.Need-ones-after-requires
-ones-after-requires c κs = search needs
+write-ones-requires : tie.Need-write-ones-requires
+write-ones-requires c κs = search needs
 
-sub-put : tie.Need-sub-put
-sub-put c = omega (arith, c .before .ones-after .ensures, after-lt (c .before .before .before .args .body))
+span-of-requires : tie.Need-span-of-requires
+span-of-requires c κs = search needs
 
-pow2-requires : tie.Need-pow2-requires
-pow2-requires c κs = omega (arith, c .before .ones-after .ensures, after-lt (c .before .before .before .args .body))
+field-widths-requires : tie.Need-field-widths-requires
+field-widths-requires c κs = search needs
 
-sub-put-2 : tie.Need-sub-put-2
-sub-put-2 c = omega (arith, c .pow2 .ensures, pow-pos (c .before .before .ones-after .result))
+fields-of-requires : tie.Need-fields-of-requires
+fields-of-requires c κs = search needs
 
-put-requires : tie.Need-put-requires
-put-requires c κs = search needs
+sub-write-all : tie.Need-sub-write-all
+sub-write-all c = let h = bounded _ (c .before .before .span-of .ensures) in omega (arith, h .before, h .ordered, h .within, room-kept _ _ (c .before .before .before .before .before .before .before .before .pre) (c .before .before .before .before .before .write-ones .ensures))
 
-detail-widths-requires : tie.Need-detail-widths-requires
-detail-widths-requires c κs = search needs
+part-write-all-start : tie.Need-part-write-all-start
+part-write-all-start c = let h = bounded _ (c .before .before .span-of .ensures) in omega (arith, h .before, h .ordered, h .within, room-kept _ _ (c .before .before .before .before .before .before .before .before .pre) (c .before .before .before .before .before .write-ones .ensures))
 
-detail-values-requires : tie.Need-detail-values-requires
-detail-values-requires c κs = search needs
+part-write-all-end : tie.Need-part-write-all-end
+part-write-all-end c = search needs
 
-slice-aggregate-write-all : tie.Need-slice-aggregate-write-all
-slice-aggregate-write-all c = search needs
+mul-write-all : tie.Need-mul-write-all
+mul-write-all c = let h = bounded _ (c .before .before .before .span-of .ensures) in omega (arith, h .before, h .ordered, h .within)
 
-slice-aggregate-write-all-2 : tie.Need-slice-aggregate-write-all-2
-slice-aggregate-write-all-2 c = search needs
+sub-write-all-2 : tie.Need-sub-write-all-2
+sub-write-all-2 c = let h = bounded _ (c .before .before .before .span-of .ensures) in omega (arith, h .before, h .ordered, h .within)
+
+part-write-all-start-2 : tie.Need-part-write-all-start-2
+part-write-all-start-2 c = let h = bounded _ (c .before .before .before .before .span-of .ensures) in omega (arith, h .before, h .ordered, h .within)
+
+part-write-all-end-2 : tie.Need-part-write-all-end-2
+part-write-all-end-2 c = let h = bounded _ (c .before .before .before .before .span-of .ensures) in omega (arith, h .before, h .ordered, h .within, length-widths _ (c .before .before .before .field-widths .ensures))
+
+mul-write-all-2 : tie.Need-mul-write-all-2
+mul-write-all-2 c = let h = bounded _ (c .before .before .before .before .before .span-of .ensures) in omega (arith, h .before, h .ordered, h .within)
+
+sub-write-all-3 : tie.Need-sub-write-all-3
+sub-write-all-3 c = let h = bounded _ (c .before .before .before .before .before .span-of .ensures) in omega (arith, h .before, h .ordered, h .within)
+
+part-write-all-start-3 : tie.Need-part-write-all-start-3
+part-write-all-start-3 c = let h = bounded _ (c .before .before .before .before .before .before .span-of .ensures) in omega (arith, h .before, h .ordered, h .within)
+
+part-write-all-end-3 : tie.Need-part-write-all-end-3
+part-write-all-end-3 c = let h = bounded _ (c .before .before .before .before .before .before .span-of .ensures) in omega (arith, h .before, h .ordered, h .within, ap length (c .before .before .before .before .fields-of .ensures))
 
 write-all-requires : tie.Need-write-all-requires
-write-all-requires c κs = (room-after-put (c .before .before .before .before .before .before .before .before .before .before .before .before .args .body) (c .before .before .before .before .before .before .before .before .before .before .before .before .args .part .now) (88 - c .before .before .before .before .before .before .before .before .before .before .ones-after .result) (c .before .before .before .before .before .before .before .before .before .before .ones-after .result) (c .before .before .before .before .before .before .before .before .pow2 .result - 1) (c .before .before .before .before .detail-widths .ensures) (c .before .before .before .before .before .before .before .before .before .before .before .before .pre) (c .before .before .before .before .before .before .before .put .ensures), values-count (c .before .before .before .before .before .before .before .before .before .before .before .before .args .body) (c .before .before .before .before .before .before .before .before .before .before .before .before .args .contents) _ _ (c .before .before .before .before .detail-widths .ensures) (c .before .before .before .detail-values .ensures))
+write-all-requires c κs =
+    let s = c .before .before .before .before .before .before .before .before .before .before .before .before .before in
+    let o = c .before .before .before .before .before .before .before .before .before .before .write-ones in
+    let e = c .before .before .before .before .before .before .before .span-of .ensures in
+    let w = c .before .before .before .before .before .before .field-widths .ensures in
+    let h = room-kept (s .args .body) (now (s .args .part)) (s .pre) (o .ensures) in
+    (room-in (s .args .body) (o .last .1 .0) e w h, count-in (s .args .body) (o .last .1 .0) e w h _ (ap length (c .before .before .before .before .before .fields-of .ensures)))
 
 same-length : tie.Need-same-length
 same-length c = search needs
 
 returns : tie.Need-returns
-returns c = details-written (c .before .before .before .before .before .before .before .before .before .before .before .before .before .before .before .args .body) (c .before .before .before .before .before .before .before .before .before .before .before .before .before .before .before .args .contents) (c .before .before .before .before .before .before .before .before .before .before .before .before .before .before .before .args .part .now) (c .before .before .before .before .before .before .before .before .before .before .before .before .before .before .before .pre) (c .before .before .before .before .before .before .before .before .before .before .before .before .before .ones-after .ensures) (ap (_- 1) (c .before .before .before .before .before .before .before .before .before .before .before .pow2 .ensures)) (c .before .before .before .before .before .before .before .before .before .before .put .ensures) (c .before .before .before .before .before .before .before .detail-widths .ensures) (c .before .before .before .before .before .before .detail-values .ensures) (c .before .before .write-all .ensures)
+returns c =
+    let s = c .before .before .before .before .before .before .before .before .before .before .before .before .before .before .before .before in
+    let o = c .before .before .before .before .before .before .before .before .before .before .before .before .before .write-ones in
+    let w = c .before .before .write-all in
+    details-written (s .args .body) (now (s .args .part)) (s .pre) (s .args .contents) (w .last .0) (c .before .before .before .before .before .before .before .before .before .before .span-of .ensures) (c .before .before .before .before .before .before .before .before .before .field-widths .ensures)
+    (c .before .before .before .before .before .before .before .before .fields-of .ensures) (o .ensures) (w .ensures) refl
 
 pub write-details-spec : {M : Type 1} → statement M
 write-details-spec =
     tie.close
     (tie.spec
-    ones-after-requires
-    sub-put
-    pow2-requires
-    sub-put-2
-    put-requires
-    detail-widths-requires
-    detail-values-requires
-    slice-aggregate-write-all
-    slice-aggregate-write-all-2
+    write-ones-requires
+    span-of-requires
+    field-widths-requires
+    fields-of-requires
+    sub-write-all
+    part-write-all-start
+    part-write-all-end
+    mul-write-all
+    sub-write-all-2
+    part-write-all-start-2
+    part-write-all-end-2
+    mul-write-all-2
+    sub-write-all-3
+    part-write-all-start-3
+    part-write-all-end-3
     write-all-requires
     same-length
     returns)

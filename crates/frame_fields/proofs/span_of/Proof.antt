@@ -1,9 +1,9 @@
--- `frame_fields::ones_before` meets its contract. Assumes nothing.
+-- `frame_fields::span_of` meets its contract. Assumes nothing.
 use Rattle.frame.specs.Body.{row}
-use Rattle.frame_fields.specs.Table.{onesBefore}
+use Rattle.frame_fields.specs.Table.{spanOf}
 use borrow.Author.Needs.{needs}
-use Rattle.frame_fields.proofs.ones_before.Statement.{statement}
-use Rattle.frame_fields.proofs.ones_before.Tie as tie
+use Rattle.frame_fields.proofs.span_of.Statement.{statement}
+use Rattle.frame_fields.proofs.span_of.Tie as tie
 
 enum-told : tie.Need-enum-told
 enum-told c = search needs
@@ -18,22 +18,22 @@ enum-told-4 : tie.Need-enum-told-4
 enum-told-4 c = search needs
 
 returns : tie.Need-returns
-unfolding row onesBefore
+unfolding row spanOf
 returns c = rw (c .enum-told .given .1)
 
 returns-2 : tie.Need-returns-2
-unfolding row onesBefore
+unfolding row spanOf
 returns-2 c = rw (c .enum-told2 .given .1)
 
 returns-3 : tie.Need-returns-3
-unfolding row onesBefore
+unfolding row spanOf
 returns-3 c = rw (c .enum-told3 .given .1)
 
 returns-4 : tie.Need-returns-4
-unfolding row onesBefore
+unfolding row spanOf
 returns-4 c = rw (c .enum-told4 .given .1)
 
-pub ones-before-spec : {M : Type 1} → statement M
-ones-before-spec =
+pub span-of-spec : {M : Type 1} → statement M
+span-of-spec =
     tie.close
     (tie.spec enum-told enum-told-2 enum-told-3 enum-told-4 returns returns-2 returns-3 returns-4)
