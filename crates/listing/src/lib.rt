@@ -1,4 +1,5 @@
-// The listing: a line of text for each frame, and a last line with the count. The rules are in specs/; `listing_writer` writes them.
+// The listing: a line of text for each frame, and a last line with the count. The rules are in specs/; `listing_lines` and
+// `listing_writer` write it.
 ghost use mathlib.Core.Path.{_≡_};
 ghost use Rattle.listing.specs.Lines.{pieceCount};
 

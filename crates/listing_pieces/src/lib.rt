@@ -28,7 +28,7 @@ pub fn list_piece(listed: u32, piece: &[u8], out: &mut [u8]) -> Turn
             wanted: wanted,
         };
     }
-    let last = listing_writer::end(after, &mut out[at..]);
+    let last = listing_lines::end(after, &mut out[at..]);
     Turn {
         written: at + last,
         listed: after,

@@ -1,4 +1,4 @@
--- `listing_writer::end` meets its contract. Assumes nothing.
+-- `listing_lines::end` meets its contract. Assumes nothing.
 use mathlib.Core.List.{[], _∷_}
 use native.Mathlib.Omega.{arith}
 use borrow.Author.Needs.{needs}
@@ -7,8 +7,8 @@ use Rattle.listing.specs.Lines.{endLine, endCount, endOf}
 use Rattle.decimals.proofs.Decimals.{length-word}
 use Rattle.listing.proofs.LineLengths.{length-end}
 use Rattle.decimals.proofs.Stores.{put-then, answered-none, answered-text}
-use Rattle.listing_writer.proofs.end.Statement.{statement}
-use Rattle.listing_writer.proofs.end.Tie as tie
+use Rattle.listing_lines.proofs.end.Statement.{statement}
+use Rattle.listing_lines.proofs.end.Tie as tie
 
 returns : tie.Need-returns
 unfolding endCount endOf

@@ -1,10 +1,10 @@
--- `listing_writer::put_places` meets its contract. Assumes nothing.
+-- `listing_lines::put_places` meets its contract. Assumes nothing.
 use native.Mathlib.Omega.{arith}
 use borrow.Author.Tests.{eq-eqb, ne-eqb}
 use borrow.Author.Needs.{needs}
 use Rattle.decimals.proofs.Decimals.{length-byte}
-use Rattle.listing_writer.proofs.put_places.Statement.{statement}
-use Rattle.listing_writer.proofs.put_places.Tie as tie
+use Rattle.listing_lines.proofs.put_places.Statement.{statement}
+use Rattle.listing_lines.proofs.put_places.Tie as tie
 
 cast-put-decimal : tie.Need-cast-put-decimal
 cast-put-decimal c = search needs

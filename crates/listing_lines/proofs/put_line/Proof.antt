@@ -1,4 +1,4 @@
--- `listing_writer::put_line` meets its contract. Assumes nothing.
+-- `listing_lines::put_line` meets its contract. Assumes nothing.
 use mathlib.Core.List.{[], _∷_}
 use native.Mathlib.Omega.{arith}
 use borrow.Author.Needs.{needs}
@@ -7,8 +7,8 @@ use Rattle.listing.specs.Lines.{placesText, lineOf}
 use Rattle.listing.proofs.LineLengths.{length-places}
 use Rattle.decimals.proofs.Decimals.{length-word, length-byte}
 use Rattle.decimals.proofs.Stores.{put-then}
-use Rattle.listing_writer.proofs.put_line.Statement.{statement}
-use Rattle.listing_writer.proofs.put_line.Tie as tie
+use Rattle.listing_lines.proofs.put_line.Statement.{statement}
+use Rattle.listing_lines.proofs.put_line.Tie as tie
 
 put-decimal-requires : tie.Need-put-decimal-requires
 put-decimal-requires c κs = let a = c .before .before .args in omega (arith, length-word (a .number) (omega arith))
