@@ -1,11 +1,9 @@
 -- The cases of the definitions, as the functions come to them. Assumes nothing.
-use mathlib.Core.Path.{_≡_, _∙_, refl, ap, ap₂, sym, subst}
+use mathlib.Core.Path.{_≡_, _∙_, ap, ap₂, sym}
 use mathlib.Core.Logic.{_≢_}
-use mathlib.Core.List.{List, [], _++_}
+use mathlib.Core.List.{List, _++_}
 use Prim.Native.Nat.{ℕ, _+_}
-use native.Mathlib.Omega.{arith}
 use lib.ListN.{length}
-use lib.Seq.{paste}
 use borrow.Author.Tests.{eq-eqb, ne-eqb}
 use Rattle.header.specs.Fields.{run, frontFields, frontOf, extensionFields, extensionOf}
 use Rattle.header.specs.Header.{headerRefusal, headerReadOf}
@@ -13,26 +11,24 @@ use Rattle.header.specs.declared.Front.{Front}
 use Rattle.header.specs.declared.Extension.{Extension}
 use Rattle.header.specs.declared.Header.{Header}
 use Rattle.header.specs.declared.HeaderReading.{HeaderReading}
-use Rattle.header_fields.proofs.Copies.{Filled, filled-none, filled-row, filled-all}
+use Rattle.header_arrays.specs.Placed.{placed}
+use Rattle.header_arrays.proofs.Copies.{filled-none, filled-row, filled-all}
 use Rattle.abi.specs.Status.{statusOf}
 use Rattle.abi_header.specs.Header.{headerValues, headerFrom, headerReadStatus, headerReadValues}
 
 -- ---- a header and its fields
 
--- k is the place where the extension's fields begin
-pub from-parts : (v a b : List ℕ) (k : ℕ) (f : Front) (e : Extension) → a ≡ run v 0 1 119 → b ≡ run v k 1 26 → k ≡ 119 → f ≡ frontOf a → e ≡ extensionOf b
+pub from-parts : (v a b : List ℕ) (f : Front) (e : Extension) → a ≡ run v 0 1 119 → b ≡ run v 119 1 26 → f ≡ frontOf a → e ≡ extensionOf b
     → record { front = f; extension = e } ≡ headerFrom v
 unfolding headerFrom
-from-parts v a b k f e p q w g h =
-    ap₂ (λ (x : Front) (y : Extension). record { front = x; extension = y }) (g ∙ ap frontOf p)
-    (h ∙ ap extensionOf (q ∙ ap (λ (j : ℕ). run v j 1 26) w))
+from-parts v a b f e p q g h = ap₂ (λ (x : Front) (y : Extension). record { front = x; extension = y }) (g ∙ ap frontOf p) (h ∙ ap extensionOf q)
 
 pub fields-put : (r : Header) (a s t u : List ℕ) → length s ≡ 145 → a ≡ frontFields (r .front) → length a ≡ 119 → length (r .extension .ac) ≡ 26
-    → t ≡ paste s 0 a (length a) → u ≡ paste t 119 (r .extension .ac) (length (r .extension .ac)) → u ≡ headerValues r
+    → t ≡ placed s 0 a → u ≡ placed t 119 (r .extension .ac) → u ≡ headerValues r
 unfolding headerValues extensionFields
 fields-put r a s t u ls e la lx p q =
-    let one = filled-row a t (length a) 119 (filled-none s) refl la p in
-    let two = filled-row (r .extension .ac) u (length (r .extension .ac)) 26 one refl lx q in
+    let one = filled-row a t 119 (filled-none s) p la in
+    let two = filled-row (r .extension .ac) u 26 one q lx in
     filled-all two ls ∙ ap (_++ r .extension .ac) e
 
 -- ---- reading: the status n and the buffer t

@@ -6,7 +6,6 @@ use lib.Dec.{eqb}
 use lib.ListN.{length}
 use Rattle.header.specs.Fields.{run, frontFields, frontOf, extensionFields, extensionOf}
 use Rattle.header.specs.Header.{headerRefusal, headerReadOf, writeNumber, writeOf}
-use Rattle.header_laying.specs.Laying.{layInNumber}
 use Rattle.header.specs.declared.Header.{Header}
 use Rattle.abi.specs.Status.{statusOf}
 
@@ -30,10 +29,3 @@ headerWriteStatus v s = cond (eqb (length v) 145) (statusOf (writeNumber (header
 
 unfoldable pub headerWriteBytes : (v s : List ℕ) → List ℕ
 headerWriteBytes v s = cond (eqb (length v) 145) (writeOf (headerFrom v) s) s
-
--- laying in and taking out tell their number alone
-abbrev pub layInStatus : (h f : List ℕ) → ℕ
-layInStatus h f = statusOf (layInNumber h f) 0
-
-abbrev pub takeOutStatus : List ℕ → ℕ
-takeOutStatus h = statusOf (headerRefusal h) 0

@@ -1,8 +1,7 @@
 // Headers over plain numbers and slices, as a C program can call them: a header is its 145 fields in their order.
 ghost use mathlib.Core.Path.{_≡_};
 ghost use lib.ListN.{length};
-ghost use Rattle.header_laying.specs.Laying.{layInOf, takeOutOf};
-ghost use Rattle.abi_header.specs.Header.{headerValues, headerFrom, headerReadStatus, headerReadValues, headerWriteStatus, headerWriteBytes, layInStatus, takeOutStatus};
+ghost use Rattle.abi_header.specs.Header.{headerValues, headerFrom, headerReadStatus, headerReadValues, headerWriteStatus, headerWriteBytes};
 use header::Header;
 
 // The header that has these fields.
@@ -10,10 +9,8 @@ fn header_from(v: &[u64]) -> Header
     requires { ⌜ length (now v) ≡ 145 ⌝ }
     ensures { λ r. ⌜ r ≡ headerFrom (now (v .entry)) ⌝ }
 {
-    let mut first = header_fields::zeros119();
-    header_fields::take_run(v, 0, 1, &mut first);
-    let mut second = header_fields::zeros26();
-    header_fields::take_run(v, 119, 1, &mut second);
+    let first = header_arrays::run119(v, 0, 1);
+    let second = header_arrays::run26(v, 119, 1);
     let front = header_fields::front_of(&first);
     let extension = header_fields::extension_of(&second);
     Header { front, extension }
@@ -25,10 +22,10 @@ fn put_fields(header: Header, out: &mut [u64])
     ensures { λ _. ⌜ now (out .exit) ≡ headerValues header ⌝ }
 {
     let front = header_fields::front_fields(header.front);
-    header_fields::put_values(&front, out, 0);
+    header_arrays::put_values(&front, out, 0);
     let extension = header.extension;
     let ac = extension.ac;
-    header_fields::put_values(&ac, out, 119);
+    header_arrays::put_values(&ac, out, 119);
 }
 
 // Reads a header; its fields where it is accepted.
@@ -56,20 +53,4 @@ pub fn header_write(values: &[u64], header: &mut [u8]) -> u32
         return abi::status(1, 0);
     }
     abi::status(header_writer::write(header_from(values), header), 0)
-}
-
-// Lays the repaired frame into a header.
-pub fn lay_in(header: &mut [u8], frame: &[u8]) -> u32
-    ensures status { λ r. ⌜ r ≡ layInStatus (now (header .entry)) (now (frame .entry)) ⌝ }
-    ensures header { λ _. ⌜ now (header .exit) ≡ layInOf (now (header .entry)) (now (frame .entry)) ⌝ }
-{
-    abi::status(header_inserter::lay_in(header, frame), 0)
-}
-
-// Takes a frame out of a header.
-pub fn take_out(header: &mut [u8]) -> u32
-    ensures status { λ r. ⌜ r ≡ takeOutStatus (now (header .entry)) ⌝ }
-    ensures header { λ _. ⌜ now (header .exit) ≡ takeOutOf (now (header .entry)) ⌝ }
-{
-    abi::status(header_inserter::take_out(header), 0)
 }

@@ -9,7 +9,8 @@ ghost use Rattle.abi_repair.specs.Repair.{repairStatus, repairWord};
 ghost use Rattle.abi_frame.specs.Frame.{frameReadStatus, frameReadRecord, frameWriteStatus, frameWriteBytes, warnedStatus};
 ghost use Rattle.abi_place.specs.Place.{reportStatus, reportPlace, deskStatus, deskFields};
 ghost use Rattle.abi_receiver.specs.Receiver.{followStatus, captureSource, captureNumbers};
-ghost use Rattle.abi_header.specs.Header.{headerReadStatus, headerReadValues, headerWriteStatus, headerWriteBytes, layInStatus, takeOutStatus};
+ghost use Rattle.abi_header.specs.Header.{headerReadStatus, headerReadValues, headerWriteStatus, headerWriteBytes};
+ghost use Rattle.abi_laying.specs.Laying.{layInStatus, takeOutStatus};
 ghost use Rattle.header_laying.specs.Laying.{layInOf, takeOutOf};
 ghost use Rattle.bits.specs.Bits.{bits};
 ghost use Rattle.crc.specs.Crc.{crc32Of};
@@ -113,7 +114,7 @@ pub extern "C" fn gvz_lay_in(header: &mut [u8], frame: &[u8]) -> u32
     ensures { λ r. ⌜ r ≡ layInStatus (now (header .entry)) (now (frame .entry)) ⌝ }
     ensures { λ _. ⌜ now (header .exit) ≡ layInOf (now (header .entry)) (now (frame .entry)) ⌝ }
 {
-    abi_header::lay_in(header, frame)
+    abi_laying::lay_in(header, frame)
 }
 
 #[no_mangle]
@@ -121,7 +122,7 @@ pub extern "C" fn gvz_take_out(header: &mut [u8]) -> u32
     ensures { λ r. ⌜ r ≡ takeOutStatus (now (header .entry)) ⌝ }
     ensures { λ _. ⌜ now (header .exit) ≡ takeOutOf (now (header .entry)) ⌝ }
 {
-    abi_header::take_out(header)
+    abi_laying::take_out(header)
 }
 
 // The CRC-32 of any bytes, as a header's is taken: nothing is refused, and the answer is the CRC itself.

@@ -80,7 +80,7 @@ fn ac_values(frame: &[u8; 26]) -> [u64; 26]
     ensures { λ r. ⌜ r ≡ unpack acWidths (bits (now (frame .entry))) ⌝ }
 {
     let widths = ac_widths();
-    let mut values = header_fields::zeros26();
+    let mut values = header_arrays::zeros26();
     bits::read_all(frame, &widths, &mut values);
     values
 }

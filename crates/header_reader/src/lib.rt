@@ -27,7 +27,7 @@ fn find_front(h: &[u8]) -> FrontFound
 {
     let kinds = header_tables::front_kinds();
     let widths = header_tables::front_widths();
-    let mut v = header_fields::zeros119();
+    let mut v = header_arrays::zeros119();
     let fixed = segments::read_fields(&h[0..99], &kinds, &widths, &mut v);
     let front = header_fields::front_of(&v);
     FrontFound { fixed, front }
@@ -40,7 +40,7 @@ fn find_extension(h: &[u8]) -> ExtensionFound
 {
     let kinds = header_tables::extension_kinds();
     let widths = header_tables::extension_widths();
-    let mut v = header_fields::zeros26();
+    let mut v = header_arrays::zeros26();
     let fixed = segments::read_fields(&h[99..184], &kinds, &widths, &mut v);
     let extension = header_fields::extension_of(&v);
     ExtensionFound { fixed, extension }
@@ -57,9 +57,9 @@ fn crc_wrong(h: &[u8]) -> bool
 fn no_header() -> Header
     ensures { λ r. ⌜ r ≡ noHeader ⌝ }
 {
-    let none = header_fields::zeros119();
+    let none = header_arrays::zeros119();
     let front = header_fields::front_of(&none);
-    let nothing = header_fields::zeros26();
+    let nothing = header_arrays::zeros26();
     let extension = header_fields::extension_of(&nothing);
     Header { front, extension }
 }
@@ -83,7 +83,7 @@ fn refusal_of(h: &[u8], front: FrontFound, extension: ExtensionFound) -> u8
         return 15;
     }
     let states = found.states;
-    if header_fields::has(&states, 3) {
+    if header_arrays::has(&states, 3) {
         return 15;
     }
     if !extension.fixed {

@@ -42,7 +42,7 @@ pub fn record_refusal(header: Header) -> u8
         return 14;
     }
     let states = front.states;
-    if header_fields::has(&states, 3) {
+    if header_arrays::has(&states, 3) {
         return 15;
     }
     0

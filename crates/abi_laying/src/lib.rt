@@ -1,0 +1,20 @@
+// A frame laid into a header and taken out of it, as a C program can call them.
+ghost use mathlib.Core.Path.{_≡_};
+ghost use Rattle.header_laying.specs.Laying.{layInOf, takeOutOf};
+ghost use Rattle.abi_laying.specs.Laying.{layInStatus, takeOutStatus};
+
+// Lays the repaired frame into a header.
+pub fn lay_in(header: &mut [u8], frame: &[u8]) -> u32
+    ensures status { λ r. ⌜ r ≡ layInStatus (now (header .entry)) (now (frame .entry)) ⌝ }
+    ensures header { λ _. ⌜ now (header .exit) ≡ layInOf (now (header .entry)) (now (frame .entry)) ⌝ }
+{
+    abi::status(header_inserter::lay_in(header, frame), 0)
+}
+
+// Takes a frame out of a header.
+pub fn take_out(header: &mut [u8]) -> u32
+    ensures status { λ r. ⌜ r ≡ takeOutStatus (now (header .entry)) ⌝ }
+    ensures header { λ _. ⌜ now (header .exit) ≡ takeOutOf (now (header .entry)) ⌝ }
+{
+    abi::status(header_inserter::take_out(header), 0)
+}
