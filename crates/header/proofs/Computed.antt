@@ -1,20 +1,18 @@
--- Computed: the order of the tests, what the sample header is refused for, and its CRC. Assumes nothing.
+-- Computed: the order of the tests, what the sample header is refused for, and the bytes that the CRC covers. Assumes nothing.
 use mathlib.Core.Path.{_≡_, refl}
 use mathlib.Core.Bool.{false}
 use mathlib.Core.List.{List, [], _∷_}
 use Prim.Native.Nat.{ℕ}
-use lib.ListN.{drop}
 use Rattle.gf2.specs.Polynomial.{add, scale, remainder}
 use Rattle.bits.specs.Bits.{digit, odd, value, bitsOf, bits, bytes}
-use Rattle.bits.specs.Layout.{pack}
-use Rattle.bits.specs.Segment.{widths, freeWidths, withFixed}
+use Rattle.bits.specs.Segment.{freeWidths}
 use Rattle.bits.specs.Refusal.{firstRefusal, testNumbers}
 use Rattle.crc.specs.Crc.{crc, crc32}
 use Rattle.header.specs.Layout.{frontLayout, extensionLayout}
 use Rattle.header.specs.Fields.{pairs, frontFields, extensionFields, Sized}
 use Rattle.gf2.specs.Polynomial.{member}
 use Rattle.header.specs.Tests.{tooWide}
-use Rattle.header.specs.Header.{headerTests, sealed, headerOf, recordTests, recordRefusal}
+use Rattle.header.specs.Header.{headerTests, sealed, recordTests, recordRefusal}
 use Rattle.header.specs.Worked.{sample}
 use Rattle.header.specs.declared.Header.{Header}
 
@@ -54,6 +52,7 @@ pub sample-sized : (p n s : ℕ) → Sized (sample p n s)
 unfolding sample
 sample-sized p n s = record { valid = refl; streams = refl; networks = refl; states = refl; slots = refl; ac = refl }
 
-pub crc-alone : drop 184 (headerOf (sample 0x47000000 1 0)) ≡ 0xE7 ∷ 0x60 ∷ 0xA5 ∷ 0x71 ∷ []
-unfolding add scale remainder digit odd value bitsOf bits bytes pack widths withFixed crc crc32 frontLayout extensionLayout pairs frontFields extensionFields sealed headerOf sample
-crc-alone = refl
+-- the first four bytes are not covered: of four bytes the CRC is that of none
+first-four : sealed (1 ∷ 2 ∷ 3 ∷ 4 ∷ []) ≡ 1 ∷ 2 ∷ 3 ∷ 4 ∷ 0xFF ∷ 0xFF ∷ 0xFF ∷ 0xFF ∷ []
+unfolding add scale remainder digit odd value bitsOf bits bytes crc crc32 sealed
+first-four = refl

@@ -1,7 +1,7 @@
 pub mod Computed
 pub mod Fields
 pub mod Sealed
-pub mod ByteParts
+pub mod Parts
 pub mod Headers
 pub mod Promises
 pub mod Worked

@@ -12,7 +12,7 @@ use Rattle.bits.proofs.Bits.{length-bytes, length-bits, bits-take, bitsOf-value
 use Rattle.bits.proofs.Layouts.{length-pack, layoutb-layout}
 use Rattle.header.specs.Header.{sealed}
 use Rattle.header_laying.specs.Laying.{withAc}
-use Rattle.header.proofs.ByteParts.{written-part}
+use Rattle.header.proofs.Parts.{written-part}
 use Rattle.header_inserter.specs.AcBits.{acWidths, acOnes, withFirst}
 
 -- ---- the widths

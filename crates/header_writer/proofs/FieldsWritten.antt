@@ -8,7 +8,7 @@ use Rattle.bits.specs.Bits.{bits, bytes, Bytes}
 use Rattle.bits.specs.Layout.{sum, Layout}
 use Rattle.bits.specs.Segment.{Segment, segments, widths, freeWidths, packSegments}
 use Rattle.bits.proofs.Segment.{length-packSegments}
-use Rattle.header.proofs.ByteParts.{written-part}
+use Rattle.header.proofs.Parts.{written-part}
 use Rattle.header_tables.specs.Kinds.{kindsOf}
 use Rattle.header_tables.proofs.Rows.{Row, tables, read-room}
 

@@ -22,7 +22,7 @@ use Rattle.header.specs.Tests.{tooWide}
 use Rattle.header.specs.Header.{recordRefusal, sealed, headerOf, writeNumber, writeOf}
 use Rattle.header.specs.declared.Header.{Header}
 use Rattle.header.proofs.Sealed.{Bytes-take}
-use Rattle.header.proofs.ByteParts.{bytes-parts}
+use Rattle.header.proofs.Parts.{bytes-parts}
 
 -- ---- the CRC
 
