@@ -4,24 +4,19 @@ use mathlib.Core.Bool.{Bool, true}
 use mathlib.Core.List.{List, [], _∷_, _++_, append-assoc}
 use Prim.Native.Nat.{ℕ, _+_, _-_, _*_, _≤_}
 use native.Mathlib.Omega.{arith}
-use lib.ListN.{length, getD, take, drop, replicate, length-append, length-drop, take-append-drop, drop-of-length-le}
-use lib.Seq.{length-take-le, take-at, take-add, drop-cons, drop-append-le}
-use Rattle.bits.specs.Bits.{digit, odd, value, bitsOf, bits, bytes, Bytes}
+use lib.ListN.{length, take, drop, replicate, length-append, length-drop, take-append-drop}
+use lib.Seq.{length-take-le, take-at, take-add, drop-append-le}
+use Rattle.bits.specs.Bits.{odd, value, bitsOf, bits, bytes, Bytes}
 use Rattle.bits.specs.Layout.{pack, unpack, sum, Layout}
 use Rattle.bits.proofs.Bits.{length-bytes, length-bits, bits-take, bitsOf-value}
 use Rattle.bits.proofs.Layouts.{length-pack, layoutb-layout}
 use Rattle.header.specs.Header.{sealed}
 use Rattle.header_laying.specs.Laying.{withAc}
 use Rattle.header.proofs.Parts.{written-part}
-use Rattle.header_inserter.specs.AcBits.{acWidths, acOnes, withFirst}
+use Rattle.header_tables.specs.AcTables.{acWidths, acOnes}
+use Rattle.header_inserter.specs.AcBits.{withFirst}
 
 -- ---- the widths
-
--- 25 values that are one and a last one, as the tables have them
-pub listed : (x y : ℕ) (v : List ℕ) → length v ≡ 26 → take 25 v ≡ replicate 25 x → getD v 25 0 ≡ y → v ≡ replicate 25 x ++ y ∷ []
-listed x y v l e q =
-    sym (take-append-drop 25 v)
-    ∙ ap₂ (λ (a b : List ℕ). a ++ b) e (drop-cons v 25 0 (omega arith) ∙ ap₂ (λ (n : ℕ) (w : List ℕ). n ∷ w) q (drop-of-length-le v {i = 26} (omega arith)))
 
 pub ac-sum : sum acWidths ≡ 204
 unfolding acWidths sum

@@ -12,7 +12,7 @@ use Rattle.frame.specs.Read.{frameRefusal, cleanOf, cleanedOf}
 use Rattle.frame.specs.declared.Cleaned.{Cleaned}
 use Rattle.header.specs.Header.{headerRefusal}
 use Rattle.header_laying.specs.Laying.{withAc, repairedBits, layInNumber, layInOf, takeOutOf}
-use Rattle.header_inserter.specs.AcBits.{acWidths, acOnes}
+use Rattle.header_tables.specs.AcTables.{acWidths, acOnes}
 use Rattle.header_inserter.proofs.AcValues.{all-ones, frame-first}
 use Rattle.header_laying.proofs.Promises.{laying, laid-with, taken-with, length-clean, size}
 

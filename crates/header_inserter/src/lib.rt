@@ -5,81 +5,14 @@ ghost use Rattle.bits.specs.Bits.{bits};
 ghost use Rattle.bits.specs.Layout.{pack, unpack};
 ghost use Rattle.header.specs.Header.{headerRefusal};
 ghost use Rattle.header_laying.specs.Laying.{withAc, layInNumber, layInOf, takeOutOf};
-ghost use Rattle.header_inserter.specs.AcBits.{acWidths, acOnes, withFirst};
-
-// The 204 AC bits are 25 bytes and then 4 bits.
-fn ac_widths() -> [usize; 26]
-    ensures { λ r. ⌜ r ≡ acWidths ⌝ }
-{
-    [
-        8,
-        8,
-        8,
-        8,
-        8,
-        8,
-        8,
-        8,
-        8,
-        8,
-        8,
-        8,
-        8,
-        8,
-        8,
-        8,
-        8,
-        8,
-        8,
-        8,
-        8,
-        8,
-        8,
-        8,
-        8,
-        4,
-    ]
-}
-
-// All of them 1.
-fn ac_ones() -> [u64; 26]
-    ensures { λ r. ⌜ r ≡ acOnes ⌝ }
-{
-    [
-        255,
-        255,
-        255,
-        255,
-        255,
-        255,
-        255,
-        255,
-        255,
-        255,
-        255,
-        255,
-        255,
-        255,
-        255,
-        255,
-        255,
-        255,
-        255,
-        255,
-        255,
-        255,
-        255,
-        255,
-        255,
-        15,
-    ]
-}
+ghost use Rattle.header_tables.specs.AcTables.{acWidths};
+ghost use Rattle.header_inserter.specs.AcBits.{withFirst};
 
 // The first 204 bits of a frame.
 fn ac_values(frame: &[u8; 26]) -> [u64; 26]
     ensures { λ r. ⌜ r ≡ unpack acWidths (bits (now (frame .entry))) ⌝ }
 {
-    let widths = ac_widths();
+    let widths = header_tables::ac_widths();
     let mut values = header_arrays::zeros26();
     bits::read_all(frame, &widths, &mut values);
     values
@@ -90,7 +23,7 @@ fn put_ac(part: &mut [u8], values: &[u64; 26])
     requires { ⌜ length (now part) ≡ 89 ⌝ }
     ensures { λ _. ⌜ now (part .exit) ≡ withFirst (pack acWidths (now (values .entry))) (now (part .entry)) ⌝ }
 {
-    let widths = ac_widths();
+    let widths = header_tables::ac_widths();
     bits::write_all(part, &widths, values);
 }
 
@@ -131,7 +64,7 @@ pub fn take_out(header: &mut [u8]) -> u8
     if number != 0 {
         return number;
     }
-    let values = ac_ones();
+    let values = header_tables::ac_ones();
     put_into(header, &values);
     0
 }

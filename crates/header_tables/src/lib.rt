@@ -1,8 +1,12 @@
 // The layouts of a header's two parts as tables: kind 0 is a field, 1 is fixed at 1. Nothing here is an entry point of the box.
+mod ac;
+
 ghost use mathlib.Core.Path.{_≡_};
 ghost use Rattle.bits.specs.Segment.{widths, freeWidths};
 ghost use Rattle.header.specs.Layout.{frontLayout, extensionLayout};
 ghost use Rattle.header_tables.specs.Kinds.{kindsOf};
+pub use ac::ac_ones;
+pub use ac::ac_widths;
 
 // The front, 120 segments: the one after the validity of stream 15 is fixed.
 pub fn front_kinds() -> [u8; 120]
