@@ -1,33 +1,122 @@
-// The cable header, read, written, laid into and taken out of, on headers and records of every sort: each field's place, each refusal alone and several at
-// once, lengths about 188, each bit turned over. What these functions answer is compared by what the program writes, so they promise only to be safe and to end.
-mod headers;
-mod lay;
-mod output;
-mod read;
-mod values;
-mod write;
+// Runs test cases of the cable header: see `test_cases`. The cases, and what they must answer, come from rust/vectors.
+use test_cases::Case;
 
-fn lengths(n: usize) {
-    read::length(n);
-    write::length(n, 1);
-    write::length(n, 9);
+fn seal(header: &mut [u8]) -> u64 {
+    if header.len() == 188 {
+        header_codec::seal(header);
+    }
+    0
+}
+
+// ---- a header with each bit turned over
+
+fn zeros() -> [u8; 188] {
+    [0; 188]
+}
+
+fn no_fields() -> [u64; 145] {
+    [0; 145]
+}
+
+// The header, read and written, is the same again.
+fn comes_back(header: &[u8]) -> bool {
+    let mut fields = no_fields();
+    abi_header::header_read(header, &mut fields);
+    let mut again = zeros();
+    abi_header::header_write(&fields, &mut again);
+    check::same(header, &again)
+}
+
+// The refusal of a header; 255 where it is accepted and does not come back.
+fn refusal(header: &[u8]) -> u64 {
+    let number = header_codec::refusal(header) as u64;
+    if number == 0 && !comes_back(header) {
+        255
+    } else {
+        number
+    }
+}
+
+// Turns bit k over and, if asked, makes the CRC again.
+fn flip(header: &mut [u8], k: usize, again: u64) {
+    let bit = bits::get(header, k, 1);
+    bits::put(header, k, 1, bit ^ 1);
+    if again == 1 {
+        seal(header);
+    }
+}
+
+// The refusals of the header with each bit below a number turned over; the bit is then turned back.
+fn each_bit(header: &mut [u8], end: u64, again: u64) -> u64 {
+    for k in 0..end {
+        flip(header, k as usize, again);
+        test_cases::hex(refusal(header));
+        flip(header, k as usize, again);
+    }
+    0
+}
+
+// ---- the operations
+
+// The status of an operation that lends bytes.
+fn status_of(case: Case, input: &[u8], fields: &[u64], lent: &mut [u8]) -> u64 {
+    let operation = case.operation;
+    match operation {
+        0 => header_codec::refusal(input) as u64,
+        1 => abi_header::header_write(fields, lent) as u64,
+        2 => seal(lent),
+        3 => abi_header::lay_in(lent, input) as u64,
+        4 => abi_header::take_out(lent) as u64,
+        _ => each_bit(lent, case.a, case.b),
+    }
+}
+
+// Answers it.
+fn answer(case: Case, input: &[u8], lent: &mut [u8]) -> bool {
+    let mut fields = test_cases::no_values();
+    let n = test_cases::values(input, &mut fields);
+    test_cases::hex(status_of(case, input, &fields[0..n], lent));
+    test_cases::end_bytes(lent)
+}
+
+// Answers the reader.
+fn header_read(header: &[u8], lent: &mut [u64]) -> bool {
+    test_cases::hex(abi_header::header_read(header, lent) as u64);
+    test_cases::end_values(lent)
+}
+
+fn read(header: &[u8], bytes: &[u8]) -> bool {
+    let mut lent = test_cases::no_values();
+    let n = test_cases::values(bytes, &mut lent);
+    header_read(header, &mut lent[0..n])
+}
+
+fn run(case: Case, input: &[u8], lent: &mut [u8]) -> bool {
+    if case.operation < 6 {
+        return answer(case, input, lent);
+    }
+    if case.operation == 6 {
+        return read(input, lent);
+    }
+    test_cases::unknown()
+}
+
+// Reads and answers case n; whether there may be a next one.
+fn turn(n: u64) -> bool {
+    let mut first = io::buffer();
+    let mut second = io::buffer();
+    let case = test_cases::next_case(n, &mut first, &mut second);
+    if !case.found {
+        return false;
+    }
+    let input = case.input;
+    let lent = case.lent;
+    run(case, &first[24..24 + input], &mut second[0..lent])
 }
 
 fn main() {
-    write::fields();
-    let lowest = values::lowest();
-    write::whole(b"lowest", &lowest);
-    let model = values::model();
-    write::whole(b"model", &model);
-    let filled = values::filled();
-    write::whole(b"filled", &filled);
-    lengths(0);
-    lengths(187);
-    lengths(188);
-    lengths(189);
-    read::sweep(1504, false);
-    read::sweep(1472, true);
-    read::refusals();
-    write::refusals();
-    lay::lines();
+    let mut n: u64 = 1;
+    while n < 1000000 && turn(n) {
+        n += 1;
+    }
 }

@@ -1,30 +1,280 @@
-//! What the test programs have to write, made by the plain version.
-mod header;
-mod place;
+//! The cases that the test programs are run on, and what they have to answer, made by the plain version: a table of operations and the cases of each family.
+//! `crates/test_cases` says how a case and an answer are written.
+mod codes;
+mod frames;
+mod headers;
 mod reading;
 mod receiver;
-mod record;
-mod report;
 
 pub use reading::lines as readings;
 
-/// The test programs whose output is stored, in `crates/NAME/stdout`.
-pub const NAMES: [&str; 5] = [
-    "test_headers",
-    "test_places",
-    "test_records",
-    "test_reports",
-    "test_receiver",
+use std::fmt::Write;
+
+/// A program that runs cases: its crate, its operations by their numbers, and its cases.
+pub struct Program {
+    pub name: &'static str,
+    operations: &'static [Operation],
+    cases: fn() -> Vec<Case>,
+}
+
+pub const PROGRAMS: [Program; 4] = [
+    Program {
+        name: "test_codes",
+        operations: &codes::OPERATIONS,
+        cases: codes::cases,
+    },
+    Program {
+        name: "test_frames",
+        operations: &frames::OPERATIONS,
+        cases: frames::cases,
+    },
+    Program {
+        name: "test_receiver",
+        operations: &receiver::OPERATIONS,
+        cases: receiver::cases,
+    },
+    Program {
+        name: "test_headers",
+        operations: &headers::OPERATIONS,
+        cases: headers::cases,
+    },
 ];
 
-/// The whole output of a test program.
-pub fn expected(name: &str) -> Option<String> {
-    match name {
-        "test_headers" => Some(header::lines()),
-        "test_places" => Some(place::lines()),
-        "test_receiver" => Some(receiver::lines()),
-        "test_records" => Some(record::lines()),
-        "test_reports" => Some(report::lines()),
-        _ => None,
+/// What an operation lends to be written.
+#[derive(Clone, Copy, PartialEq, Eq)]
+enum Lends {
+    Bytes,
+    Values,
+}
+
+/// An operation, and what the plain version answers: the status, with the call's lent slice written.
+struct Operation {
+    name: &'static str,
+    lends: Lends,
+    status: fn(&mut Call) -> u64,
+}
+
+/// A case in the hands of an operation. Both slices are there as bytes and as the numbers that these make up; `told` goes before the status.
+struct Call {
+    numbers: [u64; 3],
+    input: Vec<u8>,
+    fields: Vec<u64>,
+    lent: Vec<u8>,
+    values: Vec<u64>,
+    told: Vec<u64>,
+}
+
+#[derive(Clone)]
+struct Case {
+    operation: &'static str,
+    what: String,
+    numbers: [u64; 3],
+    input: Vec<u8>,
+    lent: Vec<u8>,
+    /// Where the answer is published, and the answer: `..` for what is not told in front or behind.
+    published: Option<(&'static str, &'static str)>,
+}
+
+impl Case {
+    fn new(operation: &'static str, what: impl Into<String>) -> Case {
+        Case {
+            operation,
+            what: what.into(),
+            numbers: [0; 3],
+            input: vec![],
+            lent: vec![],
+            published: None,
+        }
     }
+
+    /// The numbers from the first on.
+    fn numbers(mut self, numbers: &[u64]) -> Case {
+        self.numbers[..numbers.len()].copy_from_slice(numbers);
+        self
+    }
+
+    fn input(mut self, bytes: &[u8]) -> Case {
+        self.input = bytes.to_vec();
+        self
+    }
+
+    fn fields(mut self, values: &[u64]) -> Case {
+        self.input = bytes_of(values);
+        self
+    }
+
+    fn lent(mut self, bytes: &[u8]) -> Case {
+        self.lent = bytes.to_vec();
+        self
+    }
+
+    /// So many numbers that stand in no answer.
+    fn values(mut self, n: usize) -> Case {
+        self.lent = vec![0xA5; 8 * n];
+        self
+    }
+
+    fn published(mut self, place: &'static str, answer: &'static str) -> Case {
+        self.published = Some((place, answer));
+        self
+    }
+
+    /// The case as the program reads it.
+    fn bytes(&self, number: usize) -> Vec<u8> {
+        let length = |slice: &[u8]| u16::try_from(slice.len()).expect("a length").to_be_bytes();
+        let front = [bytes_of(&self.numbers), self.input.clone()].concat();
+        [
+            vec![u8::try_from(number).expect("an operation")],
+            length(&self.input).to_vec(),
+            length(&self.lent).to_vec(),
+            in_runs(&front),
+            in_runs(&self.lent),
+        ]
+        .concat()
+    }
+
+    /// The answer's line without the case's number.
+    fn answer(&self, operation: &Operation) -> String {
+        let mut call = Call {
+            numbers: self.numbers,
+            input: self.input.clone(),
+            fields: values_of(&self.input),
+            lent: self.lent.clone(),
+            values: values_of(&self.lent),
+            told: vec![],
+        };
+        let status = (operation.status)(&mut call);
+        let told: String = call.told.iter().map(|n| format!("{n:x} ")).collect();
+        let lent = match operation.lends {
+            Lends::Bytes => bytes_text(&call.lent),
+            Lends::Values => values_text(&call.values),
+        };
+        let answer = format!("{told}{status:x}{lent}");
+        if let Some((place, published)) = self.published {
+            assert!(
+                agrees(&answer, published),
+                "{place}: {published}, here {answer}"
+            );
+        }
+        answer
+    }
+
+    /// What the list says of it.
+    fn text(&self) -> String {
+        let published = self
+            .published
+            .map(|(place, end)| format!(" [{place}: {end}]"));
+        format!(
+            "{}: {}{}",
+            self.operation,
+            self.what,
+            published.unwrap_or_default()
+        )
+    }
+}
+
+/// A program's input, its output, and what its cases are.
+pub struct Files {
+    pub stdin: Vec<u8>,
+    pub stdout: String,
+    pub list: String,
+}
+
+impl Program {
+    pub fn files(&self) -> Files {
+        let mut files = Files {
+            stdin: vec![],
+            stdout: String::new(),
+            list: format!("{}\n", self.name),
+        };
+        for (i, case) in (self.cases)().iter().enumerate() {
+            let number = self
+                .operations
+                .iter()
+                .position(|o| o.name == case.operation);
+            let number = number.unwrap_or_else(|| panic!("no operation {}", case.operation));
+            files.stdin.extend(case.bytes(number));
+            let answer = case.answer(&self.operations[number]);
+            writeln!(files.stdout, "{} {answer}", i + 1).unwrap();
+            writeln!(files.list, "{} {}", i + 1, case.text()).unwrap();
+        }
+        files
+    }
+}
+
+/// The list of all cases.
+pub fn list() -> String {
+    PROGRAMS.map(|program| program.files().list).join("\n")
+}
+
+/// The refusal's number, and what else is told.
+fn status(number: u8, more: u8) -> u64 {
+    u64::from(number) + 256 * u64::from(more)
+}
+
+fn bytes_of(values: &[u64]) -> Vec<u8> {
+    values
+        .iter()
+        .flat_map(|value| value.to_be_bytes())
+        .collect()
+}
+
+fn values_of(bytes: &[u8]) -> Vec<u64> {
+    let eight = |piece: &[u8]| u64::from_be_bytes(piece.try_into().expect("eight bytes"));
+    bytes.chunks_exact(8).map(eight).collect()
+}
+
+/// What stands how often in a row.
+fn runs<T: Copy + PartialEq>(s: &[T]) -> impl Iterator<Item = (T, usize)> + '_ {
+    s.chunk_by(|a, b| a == b).map(|run| (run[0], run.len()))
+}
+
+fn in_runs(bytes: &[u8]) -> Vec<u8> {
+    let pieces = runs(bytes).flat_map(|(byte, mut left)| {
+        std::iter::from_fn(move || {
+            let count = left.min(255);
+            left -= count;
+            (count > 0).then_some([count as u8, byte])
+        })
+    });
+    pieces.flatten().collect()
+}
+
+fn bytes_text(bytes: &[u8]) -> String {
+    let text: String = runs(bytes)
+        .map(|(byte, n)| match n {
+            1 => format!("{byte:02x}"),
+            _ => format!("({byte:02x}*{n})"),
+        })
+        .collect();
+    if text.is_empty() {
+        text
+    } else {
+        format!(" {text}")
+    }
+}
+
+fn values_text(values: &[u64]) -> String {
+    runs(values)
+        .map(|(value, n)| match n {
+            1 => format!(" {value:x}"),
+            _ => format!(" {value:x}*{n}"),
+        })
+        .collect()
+}
+
+/// Whether an answer is the published one.
+fn agrees(answer: &str, published: &str) -> bool {
+    match (published.strip_prefix(".."), published.strip_suffix("..")) {
+        (Some(end), _) => answer.ends_with(end),
+        (_, Some(start)) => answer.starts_with(start),
+        _ => answer == published,
+    }
+}
+
+/// Bytes from their digits.
+fn hex(digits: &str) -> Vec<u8> {
+    (0..digits.len() / 2)
+        .map(|i| u8::from_str_radix(&digits[2 * i..2 * i + 2], 16).expect("a byte"))
+        .collect()
 }

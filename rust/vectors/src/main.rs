@@ -1,11 +1,13 @@
-//! Prints what a test program has to write, as the plain version has it: `cargo run -p vectors -- test_headers`.
-fn main() {
-    let name = std::env::args().nth(1).unwrap_or_default();
-    match vectors::expected(&name) {
-        Some(text) => print!("{text}"),
-        None => {
-            eprintln!("vectors: one of: {}", vectors::NAMES.join(", "));
-            std::process::exit(2);
-        }
+//! Writes what the test programs are run on and have to answer, `crates/NAME/stdin` and `stdout`, and the list of their cases, `cases.txt`.
+use std::path::Path;
+
+fn main() -> std::io::Result<()> {
+    let here = Path::new(env!("CARGO_MANIFEST_DIR"));
+    for program in vectors::PROGRAMS {
+        let folder = here.join("../../crates").join(program.name);
+        let files = program.files();
+        std::fs::write(folder.join("stdin"), files.stdin)?;
+        std::fs::write(folder.join("stdout"), files.stdout)?;
     }
+    std::fs::write(here.join("cases.txt"), vectors::list())
 }

@@ -1,8 +1,105 @@
-//! The follower from every kind of state on frames of every kind, and two captures asked for frames inside them and past them.
+//! The follower and the captures.
+use crate::{status, Call, Case, Lends, Operation};
 use reference::capture::{frame_at, numbers};
 use reference::follower::{follow, reset, Event, Kind, State};
 use reference::frame::{write, BROADCASTER, IDENTIFICATION, UPDATE};
-use std::fmt::Write;
+
+pub(crate) const OPERATIONS: [Operation; 6] = [
+    operation("follow", |call| {
+        let (next, event) = follow(state_of_number(call.numbers[0]), &call.input);
+        event_status(event) + 65536 * number_of_state(next)
+    }),
+    operation("step", |call| {
+        let (next, event) = follow(state_of(call.numbers), &call.input);
+        call.told = told(next);
+        event_status(event)
+    }),
+    operation("reset", |call| {
+        call.told = told(reset());
+        0
+    }),
+    operation("capture_source", |call| {
+        let (main, spare, n) = captures(call);
+        match numbers(main, spare, n) {
+            (0, _) => 1,
+            (_, 0) => 2,
+            _ => 0,
+        }
+    }),
+    operation("capture_numbers", |call| {
+        let (main, spare, n) = captures(call);
+        let (a, b) = numbers(main, spare, n);
+        status(a, b)
+    }),
+    operation("frame_at", |call| {
+        let (main, spare, n) = captures(call);
+        let frame = frame_at(main, spare, n).to_vec();
+        if frame.len() <= call.lent.len() {
+            call.lent[..frame.len()].copy_from_slice(&frame);
+        }
+        frame.len() as u64
+    }),
+];
+
+const fn operation(name: &'static str, status: fn(&mut Call) -> u64) -> Operation {
+    Operation {
+        name,
+        lends: Lends::Bytes,
+        status,
+    }
+}
+
+/// The state of a number of the C boundary: one that no state has is quiet.
+fn state_of_number(number: u64) -> State {
+    match number {
+        4..=7 => State::Active(Kind::Real, number - 4),
+        8..=11 => State::Active(Kind::Test, number - 8),
+        _ => State::Quiet,
+    }
+}
+
+fn number_of_state(state: State) -> u64 {
+    match state {
+        State::Quiet => 0,
+        State::Active(Kind::Real, update) => 4 + update % 4,
+        State::Active(Kind::Test, update) => 8 + update % 4,
+    }
+}
+
+/// The state of a kind, 0 quiet, 1 real, 2 test, and any update number.
+fn state_of([kind, update, _]: [u64; 3]) -> State {
+    match kind {
+        0 => State::Quiet,
+        1 => State::Active(Kind::Real, update),
+        _ => State::Active(Kind::Test, update),
+    }
+}
+
+fn told(state: State) -> Vec<u64> {
+    match state {
+        State::Quiet => vec![0],
+        State::Active(Kind::Real, update) => vec![1, update],
+        State::Active(Kind::Test, update) => vec![2, update],
+    }
+}
+
+fn event_status(event: Event) -> u64 {
+    match event {
+        Event::Quiet => status(0, 0),
+        Event::Ended => status(0, 1),
+        Event::Begins => status(0, 2),
+        Event::Same => status(0, 3),
+        Event::Changed => status(0, 4),
+        Event::Skipped => status(0, 5),
+        Event::Refused(number) => status(number, 6),
+    }
+}
+
+/// The captures stand one after the other, the main one of so many bytes.
+fn captures(call: &Call) -> (&[u8], &[u8], u64) {
+    let (main, spare) = call.input.split_at(call.numbers[0] as usize);
+    (main, spare, call.numbers[1])
+}
 
 type Frame = [u8; 26];
 
@@ -12,8 +109,121 @@ fn written(identification: u64, update: u64, broadcaster: u64) -> Frame {
     record[UPDATE] = update;
     record[BROADCASTER] = broadcaster;
     let mut frame = [0; 26];
-    write(&record, &mut frame);
+    assert_eq!(write(&record, &mut frame), 0);
     frame
+}
+
+/// Frames of every kind: identifications 0 to 3 with updates 0 to 3; no information; pieces that are no frame; 26 zeros.
+fn frames() -> Vec<(String, Vec<u8>)> {
+    let warning = |n: u64| {
+        let what = format!("identification {}, update {}", n / 4, n % 4);
+        (what, written(n / 4, n % 4, 0).to_vec())
+    };
+    let mut frames: Vec<_> = (0..16).map(warning).collect();
+    frames.push(("no information".to_owned(), written(7, 0, 5).to_vec()));
+    let frame = written(0, 0, 0);
+    for piece in [&frame[..0], &frame[..5], &frame[..25], &[0; 26], &[0; 27]] {
+        let zeros = if piece.len() > 25 {
+            "zeros"
+        } else {
+            "bytes of a frame"
+        };
+        frames.push((format!("{} {zeros}", piece.len()), piece.to_vec()));
+    }
+    frames
+}
+
+pub(crate) fn cases() -> Vec<Case> {
+    [followed(), stepped(), sequence(), tuners()].concat()
+}
+
+fn state_text(state: State) -> String {
+    match state {
+        State::Quiet => "quiet".to_owned(),
+        State::Active(Kind::Real, update) => format!("real {update}"),
+        State::Active(Kind::Test, update) => format!("test {update}"),
+    }
+}
+
+fn follow_case(number: u64, what: &str, frame: &[u8]) -> Case {
+    let state = state_text(state_of_number(number));
+    Case::new("follow", format!("{state} ({number}): {what}"))
+        .numbers(&[number])
+        .input(frame)
+}
+
+/// From each state that a number of the C boundary has, and from numbers that no state has.
+fn followed() -> Vec<Case> {
+    let mut cases = vec![];
+    for number in [0].into_iter().chain(4..12) {
+        cases.extend(
+            frames()
+                .iter()
+                .map(|(what, frame)| follow_case(number, what, frame)),
+        );
+    }
+    for number in [1, 3, 12, 255, u64::from(u32::MAX)] {
+        cases.push(follow_case(
+            number,
+            "identification 0, update 1",
+            &written(0, 1, 0),
+        ));
+        cases.push(follow_case(number, "26 zeros", &[0; 26]));
+    }
+    let changed = follow_case(7, "update 3 then 0", &written(0, 0, 0));
+    let skipped = follow_case(4, "update 0 then 3", &written(0, 3, 0));
+    cases.push(changed.published("document 01, example 9", "40400"));
+    cases.push(skipped.published("document 01, example 9", "70500"));
+    cases
+}
+
+/// From the first state, and from states of any update number.
+fn stepped() -> Vec<Case> {
+    let states = [
+        [0, 0, 0],
+        [1, 255, 0],
+        [2, 255, 0],
+        [1, u64::MAX, 0],
+        [2, u64::MAX, 0],
+    ];
+    let mut cases = vec![];
+    for numbers in states {
+        let state = state_text(state_of(numbers));
+        for (what, frame) in frames() {
+            cases.push(
+                Case::new("step", format!("{state}: {what}"))
+                    .numbers(&numbers)
+                    .input(&frame),
+            );
+        }
+        let case = Case::new("reset", state).numbers(&numbers);
+        cases.push(case.published("document 01: a reset gives quiet", "0 0"));
+    }
+    cases
+}
+
+/// Frames one after the other, the state carried on.
+fn sequence() -> Vec<Case> {
+    let frames = [
+        ("update 3", written(0, 3, 0)),
+        ("without area, update 0", written(1, 0, 0)),
+        ("update 3", written(0, 3, 0)),
+        ("a test", written(3, 3, 0)),
+        ("zeros", [0; 26]),
+        ("a test, update 0", written(2, 0, 0)),
+        ("no information", written(7, 0, 1)),
+        ("no information again", written(7, 0, 2)),
+        ("update 2", written(1, 2, 0)),
+    ];
+    let mut state = reset();
+    let mut case = |(what, frame): (&str, Frame)| {
+        let case = follow_case(number_of_state(state), &format!("in a row: {what}"), &frame);
+        state = follow(state, &frame).0;
+        case
+    };
+    let mut cases: Vec<Case> = frames.map(&mut case).into();
+    cases.push(Case::new("reset", "after that row").numbers(&[1, 2]));
+    cases
 }
 
 /// Hit in B24 to B31, and in the bits of `more` among B32 to B39.
@@ -23,84 +233,8 @@ fn hit(mut frame: Frame, more: u8) -> Frame {
     frame
 }
 
-fn state_text(state: State) -> String {
-    match state {
-        State::Quiet => "quiet".to_owned(),
-        State::Active(Kind::Real, u) => format!("real {u}"),
-        State::Active(Kind::Test, u) => format!("test {u}"),
-    }
-}
-
-fn event_text(event: Event) -> String {
-    match event {
-        Event::Quiet => "quiet".to_owned(),
-        Event::Ended => "ended".to_owned(),
-        Event::Begins => "begins".to_owned(),
-        Event::Same => "same".to_owned(),
-        Event::Changed => "changed".to_owned(),
-        Event::Skipped => "skipped".to_owned(),
-        Event::Refused(number) => format!("refused {number}"),
-    }
-}
-
-/// The state, the event and the next state, which is the answer.
-fn followed(out: &mut String, old: State, frame: &[u8]) -> State {
-    let (next, event) = follow(old, frame);
-    let [a, b] = [old, next].map(state_text);
-    writeln!(out, "{a}: {}, {b}", event_text(event)).unwrap();
-    next
-}
-
-/// Identifications 0 to 3 with updates 0 to 3; no information; pieces that are no frame; 26 zeros.
-fn from(out: &mut String, old: State) {
-    for n in 0..16 {
-        followed(out, old, &written(n / 4, n % 4, 0));
-    }
-    followed(out, old, &written(7, 0, 5));
-    let frame = written(0, 0, 0);
-    for piece in [&frame[..0], &frame[..5], &frame[..25], &[0; 26], &[0; 27]] {
-        followed(out, old, piece);
-    }
-}
-
-/// Frames one after the other, the state carried on.
-fn sequence(out: &mut String) {
-    let frames = [
-        written(0, 3, 0),
-        written(1, 0, 0),
-        written(0, 3, 0),
-        written(3, 3, 0),
-        [0; 26],
-        written(2, 0, 0),
-        written(7, 0, 1),
-        written(7, 0, 2),
-        written(1, 2, 0),
-    ];
-    let mut state = reset();
-    for frame in frames {
-        state = followed(out, state, &frame);
-    }
-    writeln!(out, "{}", state_text(reset())).unwrap();
-}
-
-/// Both numbers, the tuner, the part's length and the part.
-fn asked(out: &mut String, main: &[u8], spare: &[u8], n: u64) {
-    let (a, b) = numbers(main, spare, n);
-    let tuner = match (a, b) {
-        (0, _) => "main",
-        (_, 0) => "spare",
-        _ => "neither",
-    };
-    let part = frame_at(main, spare, n);
-    write!(out, " frame {n}: {a} {b} {tuner} {} ", part.len()).unwrap();
-    for byte in part {
-        write!(out, "{byte:02x}").unwrap();
-    }
-    writeln!(out).unwrap();
-}
-
-/// Captures of three frames each, cut to every pair of lengths.
-fn captures(out: &mut String) {
+/// Captures of three frames each, cut to every pair of lengths, and asked for frames inside them and past them.
+fn tuners() -> Vec<Case> {
     let main = [
         hit(written(0, 1, 0), 0),
         hit(written(1, 2, 0), 1),
@@ -109,23 +243,22 @@ fn captures(out: &mut String) {
     .concat();
     let spare = [written(3, 0, 0), written(7, 0, 9), [0; 26]].concat();
     let lengths = [0, 25, 26, 51, 52, 78];
+    let mut cases = vec![];
     for (m, s) in lengths.into_iter().flat_map(|m| lengths.map(|s| (m, s))) {
-        writeln!(out, "captures of {m} and {s}").unwrap();
+        let input = [&main[..m], &spare[..s]].concat();
         for n in [0, 1, 2, 1 << 63, u64::MAX] {
-            asked(out, &main[..m], &spare[..s], n);
+            let what = format!("captures of {m} and {s} bytes, frame {n}");
+            let case = |operation| {
+                Case::new(operation, what.clone())
+                    .numbers(&[m as u64, n])
+                    .input(&input)
+            };
+            cases.extend([
+                case("capture_source"),
+                case("capture_numbers"),
+                case("frame_at").lent(&[0xA5; 26]),
+            ]);
         }
     }
-}
-
-/// All lines.
-pub fn lines() -> String {
-    let mut out = String::new();
-    from(&mut out, State::Quiet);
-    for u in [0, 1, 2, 3, 255, u64::MAX] {
-        from(&mut out, State::Active(Kind::Real, u));
-        from(&mut out, State::Active(Kind::Test, u));
-    }
-    sequence(&mut out);
-    captures(&mut out);
-    out
+    cases
 }

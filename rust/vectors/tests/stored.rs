@@ -1,12 +1,12 @@
-//! The stored output of each test program, and of the program that reads frames, is the plain version's.
+//! What is stored of the test programs, and the output of the program that reads frames, is what the plain version makes now.
 use std::path::{Path, PathBuf};
 
-fn crates() -> PathBuf {
-    Path::new(env!("CARGO_MANIFEST_DIR")).join("../../crates")
+fn here() -> PathBuf {
+    Path::new(env!("CARGO_MANIFEST_DIR")).to_owned()
 }
 
 fn compared(path: &Path, expected: &str) {
-    let stored = std::fs::read_to_string(path).expect("a stored output");
+    let stored = std::fs::read_to_string(path).expect("a stored text");
     for (n, (a, b)) in stored.lines().zip(expected.lines()).enumerate() {
         assert_eq!(a, b, "line {} of {}", n + 1, path.display());
     }
@@ -15,15 +15,23 @@ fn compared(path: &Path, expected: &str) {
 
 #[test]
 fn test_programs() {
-    for name in vectors::NAMES {
-        let expected = vectors::expected(name).expect("a known name");
-        compared(&crates().join(format!("{name}/stdout")), &expected);
+    for program in vectors::PROGRAMS {
+        let folder = here().join("../../crates").join(program.name);
+        let files = program.files();
+        let stdin = std::fs::read(folder.join("stdin")).expect("stored cases");
+        assert!(stdin == files.stdin, "{}: other cases", program.name);
+        compared(&folder.join("stdout"), &files.stdout);
     }
 }
 
 #[test]
+fn list_of_cases() {
+    compared(&here().join("cases.txt"), &vectors::list());
+}
+
+#[test]
 fn frames_read() {
-    let folder = crates().join("read_frames");
+    let folder = here().join("../../crates/read_frames");
     let input = std::fs::read(folder.join("stdin")).expect("frames");
     compared(&folder.join("stdout"), &vectors::readings(&input));
 }

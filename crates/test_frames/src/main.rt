@@ -1,0 +1,142 @@
+// Runs test cases of frames, records, reports and places: see `test_cases`. The cases, and what they must answer, come from rust/vectors.
+use test_cases::Case;
+
+// ---- doubles, by their bits
+
+fn double_at(s: &[u64], i: usize) -> f64 {
+    if i < s.len() {
+        test_cases::double(s[i])
+    } else {
+        0.0
+    }
+}
+
+fn put_double(s: &mut [u64], i: usize, x: f64) {
+    if i < s.len() {
+        s[i] = test_cases::bits_of(x);
+    }
+}
+
+// The doubles that are lent, up to four.
+fn doubles_of(lent: &[u64]) -> [f64; 4] {
+    [
+        double_at(lent, 0),
+        double_at(lent, 1),
+        double_at(lent, 2),
+        double_at(lent, 3),
+    ]
+}
+
+fn put_doubles(lent: &mut [u64], doubles: [f64; 4]) {
+    put_double(lent, 0, doubles[0]);
+    put_double(lent, 1, doubles[1]);
+    put_double(lent, 2, doubles[2]);
+    put_double(lent, 3, doubles[3]);
+}
+
+fn report(fields: &[u64], lent: &mut [u64]) -> u64 {
+    let mut place = doubles_of(lent);
+    let n = bits::smaller(lent.len(), 4);
+    let status = abi_place::report(fields, &mut place[0..n]) as u64;
+    put_doubles(lent, place);
+    status
+}
+
+fn desk(a: u64, b: u64, c: u64, lent: &mut [u64]) -> u64 {
+    abi_place::desk(
+        test_cases::double(a),
+        test_cases::double(b),
+        test_cases::double(c),
+        lent,
+    ) as u64
+}
+
+fn degrees(flag: u64, tenths: u64) -> u64 {
+    test_cases::bits_of(place::degrees(flag, tenths))
+}
+
+// What the desk makes of a longitude alone: its tenths, and 2048 for west; or 4096 and the refusal.
+fn longitude_of(bits: u64) -> u64 {
+    let mut fields = [0u64; 5];
+    let status = desk(0, bits, 0, &mut fields);
+    if status != 0 {
+        return 4096 | status;
+    }
+    fields[2] << 11 | fields[3]
+}
+
+// What the desk makes of the images of the tenths up to a number, with some of their bits turned over, into the lent numbers; the status is the sum of the images' bits.
+fn longitudes(flag: u64, first: u64, turned: u64, out: &mut [u64]) -> u64 {
+    let mut sum = 0;
+    for i in 0..out.len() {
+        let image = degrees(flag, std::num::wrapping_add_u64(first, i as u64));
+        out[i] = longitude_of(image ^ turned);
+        sum = std::num::wrapping_add_u64(sum, image);
+    }
+    sum
+}
+
+// ---- the operations
+
+// The status of an operation that lends numbers.
+fn status_of(case: Case, input: &[u8], fields: &[u64], lent: &mut [u64]) -> u64 {
+    let operation = case.operation;
+    match operation {
+        0 => abi_frame::frame_read(input, lent) as u64,
+        1 => abi_frame::warned(fields, case.a) as u64,
+        2 => report(fields, lent),
+        3 => desk(case.a, case.b, case.c, lent),
+        4 => degrees(case.a, case.b),
+        5 => test_cases::bits_of(place::kilometres(case.a)),
+        _ => longitudes(case.a, case.b, case.c, lent),
+    }
+}
+
+fn lending(case: Case, input: &[u8], fields: &[u64], lent: &mut [u64]) -> bool {
+    test_cases::hex(status_of(case, input, fields, lent));
+    test_cases::end_values(lent)
+}
+
+fn answer(case: Case, input: &[u8], fields: &[u64], bytes: &[u8]) -> bool {
+    let mut lent = test_cases::no_values();
+    let n = test_cases::values(bytes, &mut lent);
+    lending(case, input, fields, &mut lent[0..n])
+}
+
+// Answers the writer.
+fn frame_write(fields: &[u64], frame: &mut [u8]) -> bool {
+    test_cases::hex(abi_frame::frame_write(fields, frame) as u64);
+    test_cases::end_bytes(frame)
+}
+
+fn run(case: Case, input: &[u8], lent: &mut [u8]) -> bool {
+    let mut fields = test_cases::no_values();
+    let n = test_cases::values(input, &mut fields);
+    if case.operation < 7 {
+        return answer(case, input, &fields[0..n], lent);
+    }
+    if case.operation == 7 {
+        return frame_write(&fields[0..n], lent);
+    }
+    test_cases::unknown()
+}
+
+// Reads and answers case n; whether there may be a next one.
+fn turn(n: u64) -> bool {
+    let mut first = io::buffer();
+    let mut second = io::buffer();
+    let case = test_cases::next_case(n, &mut first, &mut second);
+    if !case.found {
+        return false;
+    }
+    let input = case.input;
+    let lent = case.lent;
+    run(case, &first[24..24 + input], &mut second[0..lent])
+}
+
+fn main() {
+    let mut n: u64 = 1;
+    while n < 1000000 && turn(n) {
+        n += 1;
+    }
+}

@@ -1,0 +1,243 @@
+//! The checksums and the code.
+use crate::{status, Call, Case, Lends, Operation};
+use reference::code::{self, GENERATOR};
+use reference::crc::{crc10, crc32};
+use reference::{bit, flip_bit, put, repair};
+
+pub(crate) const OPERATIONS: [Operation; 7] = [
+    operation("crc10", |call| {
+        crc10_of(&call.input, call.numbers[0], call.numbers[1])
+    }),
+    operation("crc10_counts", |call| {
+        let [at, count, _] = call.numbers;
+        call.told = (0..count).map(|n| crc10_of(&call.input, at, n)).collect();
+        crc10_of(&call.input, at, count)
+    }),
+    operation("crc32", |call| u64::from(crc32(&call.input))),
+    operation("crc32_lengths", |call| {
+        let lengths = 0..call.input.len();
+        call.told = lengths
+            .map(|n| u64::from(crc32(&call.input[..n])))
+            .collect();
+        u64::from(crc32(&call.input))
+    }),
+    operation("encode", |call| {
+        encode(&mut call.lent);
+        0
+    }),
+    operation("repair", repaired),
+    operation("repair_register", repaired),
+];
+
+const fn operation(name: &'static str, status: fn(&mut Call) -> u64) -> Operation {
+    Operation {
+        name,
+        lends: Lends::Bytes,
+        status,
+    }
+}
+
+/// The CRC-10 of so many bits from one on, of those that there are.
+fn crc10_of(bytes: &[u8], at: u64, count: u64) -> u64 {
+    let end = at.saturating_add(count).min(8 * bytes.len() as u64);
+    u64::from(crc10((at..end).map(|k| bit(bytes, k as usize))))
+}
+
+/// The parity of a frame's message into its place; all else stays, and so do bytes that are no frame.
+fn encode(frame: &mut [u8]) {
+    if frame.len() == 26 {
+        let word = code::encode(&std::array::from_fn(|i| bit(frame, 17 + i)));
+        let coded = code::frame_of(&word);
+        for k in 122..=203 {
+            put(frame, k..=k, u64::from(bit(&coded, k)));
+        }
+    }
+}
+
+fn repaired(call: &mut Call) -> u64 {
+    if call.lent.len() != 26 {
+        return status(1, 0);
+    }
+    match repair(&call.input) {
+        Ok(found) => {
+            call.lent.copy_from_slice(&found.word);
+            status(0, found.places)
+        }
+        Err(number) => status(number, 0),
+    }
+}
+
+/// Bytes without a pattern, by a generator of pseudorandom numbers.
+fn mixed(n: usize) -> Vec<u8> {
+    let mut x = 1u32;
+    let next = || {
+        x = (x * 20_077 + 12_345) % 65_536;
+        (x / 256) as u8
+    };
+    std::iter::repeat_with(next).take(n).collect()
+}
+
+/// Some message, without its parity.
+fn message(seed: usize) -> [u8; 26] {
+    let mut x = seed % 65_536;
+    std::array::from_fn(|_| {
+        x = (x * 75 + 74) % 65_537;
+        (x % 256) as u8
+    })
+}
+
+/// n of the generator's 18 places set, from number i on and round again.
+fn generator_places(i: usize, n: usize) -> [u8; 26] {
+    let mut frame = [0; 26];
+    for j in 0..n {
+        flip_bit(&mut frame, 203 - GENERATOR[(i + j) % 18]);
+    }
+    frame
+}
+
+/// A frame with n bits turned over, from place k on and round again.
+fn hit(mut frame: [u8; 26], k: usize, n: usize) -> [u8; 26] {
+    for j in 0..n {
+        flip_bit(&mut frame, 17 + (k + j) % 187);
+    }
+    frame
+}
+
+pub(crate) fn cases() -> Vec<Case> {
+    [checksums(), messages(), repairs()].concat()
+}
+
+fn checksums() -> Vec<Case> {
+    let digits = b"123456789";
+    let words = b"The quick brown fox";
+    let only = |places: &[usize]| {
+        let mut frame = [0; 26];
+        places.iter().for_each(|&k| flip_bit(&mut frame, k));
+        frame
+    };
+    let example = |what: &str, places: &[usize]| {
+        Case::new("crc10", format!("B21 to B111 with only {what} set"))
+            .numbers(&[21, 91])
+            .input(&only(places))
+    };
+    let counts = |at: u64, what: &str| {
+        Case::new(
+            "crc10_counts",
+            format!("each count of bits {what}, past the end too"),
+        )
+        .numbers(&[at, 179 - at])
+        .input(words)
+    };
+    let mut header = crate::headers::model_header();
+    let model = header;
+    crate::headers::set_form(&mut header, 2);
+    let sealed = [&digits[..], &crc32(digits).to_be_bytes()].concat();
+    vec![
+        Case::new("crc10", "123456789")
+            .numbers(&[0, 72])
+            .input(digits)
+            .published("CRC-10/ATM", "199"),
+        Case::new("crc10", "of nothing").numbers(&[0, 91]),
+        Case::new("crc10", "past the end")
+            .numbers(&[1 << 63, 91])
+            .input(digits),
+        Case::new("crc10", "more bits than are there")
+            .numbers(&[0, u64::MAX])
+            .input(digits)
+            .published("CRC-10/ATM", "199"),
+        example("B111", &[111]).published("document 01, example 6", "233"),
+        example("B110", &[110]).published("document 01, example 7", "255"),
+        example("B110 and B111", &[110, 111]).published("document 01, example 7", "66"),
+        counts(0, "from bit 0"),
+        counts(21, "from bit 21, inside a byte"),
+        counts(150, "from bit 150, near the end"),
+        Case::new("crc32", "123456789")
+            .input(digits)
+            .published("CRC-32/MPEG-2", "376e6e7"),
+        Case::new("crc32", "of nothing").published("register all ones", "ffffffff"),
+        Case::new("crc32", "123456789 with its CRC after it")
+            .input(&sealed)
+            .published("ITU-T H.222.0: comes out zero", "0"),
+        Case::new("crc32", "the model header, bytes 4 to 183")
+            .input(&model[4..184])
+            .published("the model header", "e760a571"),
+        Case::new("crc32", "the model header with form 2")
+            .input(&header[4..184])
+            .published("the model header with form 2", "a94b8658"),
+        Case::new("crc32_lengths", "each length of a text").input(words),
+        Case::new(
+            "crc32_lengths",
+            "each length from 0 to 400, groups of eight and what is left over",
+        )
+        .input(&mixed(400)),
+    ]
+}
+
+fn messages() -> Vec<Case> {
+    let mut first = [0; 26];
+    flip_bit(&mut first, 121);
+    let mut cases = vec![
+        Case::new("encode", "the message with only B121 set: the generator")
+            .lent(&first)
+            .published("document 01, example 2", "0 (00*15)4308c01110114014404110"),
+    ];
+    for n in [0, 25, 27] {
+        cases.push(
+            Case::new("encode", format!("{n} bytes, no frame: left as they are"))
+                .lent(&vec![0xA5; n]),
+        );
+    }
+    cases.extend((0..187).map(|seed| {
+        Case::new("encode", format!("message {seed}, to be hit below")).lent(&message(seed))
+    }));
+    cases
+}
+
+fn repairs() -> Vec<Case> {
+    let case = |operation, what: &str, frame: &[u8]| {
+        Case::new(operation, what).input(frame).lent(&[0xA5; 26])
+    };
+    let mut cases = vec![];
+    for operation in ["repair", "repair_register"] {
+        cases.extend([
+            case(operation, "no bytes", &[]),
+            case(operation, "25 bytes", &[0; 25]),
+            case(operation, "27 bytes", &[0; 27]),
+            case(operation, "187 zeros", &[0; 26]).published("document 01, example 1", "0 (00*26)"),
+            case(operation, "all ones", &[255; 26]),
+            case(operation, "zeros hit in B17 to B26", &hit([0; 26], 0, 10)),
+        ]);
+        for n in [0, 25, 27] {
+            let lent = vec![0xA5; n];
+            cases.push(
+                Case::new(operation, format!("a word of {n} bytes"))
+                    .input(&[0; 26])
+                    .lent(&lent),
+            );
+        }
+        for i in 0..18 {
+            let eight = format!("eight places of the generator from number {i} on");
+            let nine = format!("nine of them from number {i} on");
+            let ten = format!("ten of them from number {i} on");
+            cases.extend([
+                case(operation, &eight, &generator_places(i, 8))
+                    .published("document 01, example 3", "800 (00*26)"),
+                case(operation, &nine, &generator_places(i, 9))
+                    .published("document 01, example 4", "4 (a5*26)"),
+                case(operation, &ten, &generator_places(i, 10)).published(
+                    "document 01, example 5",
+                    "800 (00*15)4308c01110114014404110",
+                ),
+            ]);
+        }
+    }
+    for seed in 0..187 {
+        let mut word = message(seed);
+        encode(&mut word);
+        for (n, what) in [(0, "clean"), (8, "eight hits"), (9, "nine hits")] {
+            let what = format!("code word {seed}, {what} from B{} on and round", 17 + seed);
+            cases.push(case("repair", &what, &hit(word, seed, n)));
+        }
+    }
+    cases
+}
