@@ -1,4 +1,4 @@
-// What the box answers to frames, as lines of text for people and for tests. Of a frame read: `1 accepted 0` and the record's fields, or `2 refused 4`.
+// What the box answers to frames, as lines of text. Of a frame read: `1 accepted 0` and the record's fields, or `2 refused 4`.
 // Of a frame repaired: `1 repaired 0` and the repaired word, or `2 refused 4`. What the lines tell of is proved in `frame_reader` and `dsc_codec`.
 use dsc::Outcome;
 use frame::FIELDS;
@@ -17,7 +17,7 @@ fn text(s: &[u8]) {
     io::write_all(STDOUT_FILENO, s);
 }
 
-pub fn number(n: u64) {
+fn number(n: u64) {
     io::print_decimal(STDOUT_FILENO, n);
 }
 
@@ -27,7 +27,7 @@ fn byte(b: u8) {
 }
 
 // Bytes, two hexadecimal digits each.
-pub fn bytes(s: &[u8]) {
+fn bytes(s: &[u8]) {
     for i in 0..s.len() {
         byte(s[i]);
     }
@@ -82,7 +82,7 @@ fn repair(frame: &[u8]) {
 }
 
 // The line of frame n.
-pub fn line(asked: Question, n: u64, frame: &[u8]) {
+fn line(asked: Question, n: u64, frame: &[u8]) {
     number(n);
     match asked {
         Question::Read => reading(frame),
