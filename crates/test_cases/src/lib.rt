@@ -4,8 +4,8 @@
 // of the first slice; and the runs of the second slice, which is lent to be written. A run is two bytes: how often a byte stands in a row, and the byte. A slice of numbers
 // has eight bytes for each, most significant first, and so has one of doubles, their bits.
 //
-// An answer is a line: the case's number, a status, and the lent slice as it stands after the call, all hexadecimal but the case's number. What stands n times in a
-// row is written once, with `*n`.
+// An answer is a line: the case's number, a status, and the lent slice as it stands after the call, bytes after a colon, numbers after a space each, all hexadecimal but the
+// case's number. What stands n times in a row is written once, with `*n`, and of bytes a point.
 ghost use Prim.Native.Nat.{_≤_, _<_};
 ghost use mathlib.Core.Path.{_≡_};
 ghost use lib.ListN.{length};
@@ -71,11 +71,9 @@ fn read_runs(s: &mut [u8], n: usize) -> bool {
     true
 }
 
-// No case, for this reason.
-fn no_case(reason: &[u8]) -> Case
+fn no_case() -> Case
     ensures { λ r. ⌜ (r .input ≤ 4064) × (r .lent ≤ 4064) ⌝ }
 {
-    text(reason);
     Case {
         found: false,
         operation: 0,
@@ -87,7 +85,30 @@ fn no_case(reason: &[u8]) -> Case
     }
 }
 
-// The numbers in front, and both slices.
+// Tells that the input has no case here, or one that there is not: it cannot be read any further.
+pub fn wrong() -> Case
+    ensures { λ r. ⌜ (r .input ≤ 4064) × (r .lent ≤ 4064) ⌝ }
+{
+    io::write_all(STDOUT_FILENO, b" wrong case\n");
+    no_case()
+}
+
+// The case whose numbers stand in front.
+fn case_of(operation: u8, numbers: &[u8], input: usize, lent: usize) -> Case
+    ensures { λ r. ⌜ (r .input ≡ input) × (r .lent ≡ lent) ⌝ }
+{
+    Case {
+        found: true,
+        operation,
+        a: bits::get(numbers, 0, 64),
+        b: bits::get(numbers, 64, 64),
+        c: bits::get(numbers, 128, 64),
+        input,
+        lent,
+    }
+}
+
+// Reads the numbers and both slices.
 fn read_slices(
     operation: u8,
     input: usize,
@@ -98,26 +119,18 @@ fn read_slices(
     ensures { λ r. ⌜ (r .input ≤ 4064) × (r .lent ≤ 4064) ⌝ }
 {
     if 4064 < input {
-        return no_case(b" too long\n");
+        return wrong();
     }
     if 4064 < lent {
-        return no_case(b" too long\n");
+        return wrong();
     }
     if !read_runs(first, 24 + input) {
-        return no_case(b" wrong runs\n");
+        return wrong();
     }
     if !read_runs(second, lent) {
-        return no_case(b" wrong runs\n");
+        return wrong();
     }
-    Case {
-        found: true,
-        operation,
-        a: bits::get(first, 0, 64),
-        b: bits::get(first, 64, 64),
-        c: bits::get(first, 128, 64),
-        input,
-        lent,
-    }
+    case_of(operation, first, input, lent)
 }
 
 // Reads case n: 24 bytes of numbers and then its first slice into one buffer, its second slice into the other.
@@ -127,11 +140,11 @@ pub fn next_case(n: u64, first: &mut [u8], second: &mut [u8]) -> Case
     let mut head = [0u8; 5];
     let got = io::read_full(STDIN_FILENO, &mut head);
     if got == 0 {
-        return no_case(b"");
+        return no_case();
     }
-    decimal(n);
+    io::print_decimal(STDOUT_FILENO, n);
     if got != 5 {
-        return no_case(b" short\n");
+        return wrong();
     }
     let input = bits::get(&head, 8, 16) as usize;
     let lent = bits::get(&head, 24, 16) as usize;
@@ -189,38 +202,25 @@ pub fn bits_of(x: f64) -> u64 {
 
 // ---- answers
 
-fn text(s: &[u8]) {
-    io::write_all(STDOUT_FILENO, s);
-}
-
-fn decimal(n: u64) {
-    io::print_decimal(STDOUT_FILENO, n);
-}
-
 // A space and a number.
 pub fn hex(n: u64) {
-    text(b" ");
+    io::write_all(STDOUT_FILENO, b" ");
     io::print_hex(STDOUT_FILENO, n, 1);
 }
 
-// How often something stands, where that is more than once.
+// How often something stands.
 fn times(n: u64) {
-    if 1 < n {
-        text(b"*");
-        decimal(n);
-    }
+    io::write_all(STDOUT_FILENO, b"*");
+    io::print_decimal(STDOUT_FILENO, n);
 }
 
-// A byte that stands n times in a row; in brackets where that is more than once, since digits follow.
+// A byte that stands n times in a row: where that is more than once, with a point after the number, since digits follow.
 fn byte_run(b: u8, n: u64) {
-    if n <= 1 {
-        io::print_hex(STDOUT_FILENO, b as u64, 2);
-        return;
-    }
-    text(b"(");
     io::print_hex(STDOUT_FILENO, b as u64, 2);
-    times(n);
-    text(b")");
+    if 1 < n {
+        times(n);
+        io::write_all(STDOUT_FILENO, b".");
+    }
 }
 
 // Byte i, the nth of its kind in a row: written if it is the last of them. The answer is how many of its kind the next byte makes.
@@ -234,20 +234,14 @@ fn after_byte(s: &[u8], i: usize, n: u64) -> u64
     1
 }
 
-fn put_bytes(s: &[u8]) {
+// Ends an answer with a lent slice of bytes; the next case may be read.
+pub fn end_bytes(s: &[u8]) -> bool {
+    io::write_all(STDOUT_FILENO, b":");
     let mut n = 1;
     for i in 0..s.len() {
         n = after_byte(s, i, n);
     }
-}
-
-// Ends an answer with a lent slice of bytes; the next case may be read.
-pub fn end_bytes(s: &[u8]) -> bool {
-    if s.len() != 0 {
-        text(b" ");
-        put_bytes(s);
-    }
-    text(b"\n");
+    io::write_all(STDOUT_FILENO, b"\n");
     true
 }
 
@@ -259,27 +253,18 @@ fn after_value(s: &[u64], i: usize, n: u64) -> u64
         return std::num::wrapping_add_u64(n, 1);
     }
     hex(s[i]);
-    times(n);
-    1
-}
-
-// A slice of numbers, a space before each.
-fn put_values(s: &[u64]) {
-    let mut n = 1;
-    for i in 0..s.len() {
-        n = after_value(s, i, n);
+    if 1 < n {
+        times(n);
     }
+    1
 }
 
 // Ends an answer with a lent slice of numbers.
 pub fn end_values(s: &[u64]) -> bool {
-    put_values(s);
-    text(b"\n");
+    let mut n = 1;
+    for i in 0..s.len() {
+        n = after_value(s, i, n);
+    }
+    io::write_all(STDOUT_FILENO, b"\n");
     true
-}
-
-// Ends the run at an operation that there is not.
-pub fn unknown() -> bool {
-    text(b" unknown operation\n");
-    false
 }

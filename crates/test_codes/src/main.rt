@@ -36,7 +36,7 @@ fn answer(operation: u8, a: usize, b: usize, input: &[u8], lent: &mut [u8]) -> u
 
 fn run(case: Case, input: &[u8], lent: &mut [u8]) -> bool {
     if 6 < case.operation {
-        return test_cases::unknown();
+        return test_cases::wrong().found;
     }
     test_cases::hex(answer(
         case.operation,

@@ -92,7 +92,7 @@ fn answer(operation: u8, a: u64, b: u64, input: &[u8], lent: &mut [u8]) -> u64 {
 
 fn run(case: Case, input: &[u8], lent: &mut [u8]) -> bool {
     if 5 < case.operation {
-        return test_cases::unknown();
+        return test_cases::wrong().found;
     }
     test_cases::hex(answer(case.operation, case.a, case.b, input, lent));
     test_cases::end_bytes(lent)

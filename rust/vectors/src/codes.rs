@@ -179,7 +179,7 @@ fn messages() -> Vec<Case> {
     let mut cases = vec![
         Case::new("encode", "the message with only B121 set: the generator")
             .lent(&first)
-            .published("document 01, example 2", "0 (00*15)4308c01110114014404110"),
+            .published("document 01, example 2", "0:00*15.4308c01110114014404110"),
     ];
     for n in [0, 25, 27] {
         cases.push(
@@ -203,7 +203,7 @@ fn repairs() -> Vec<Case> {
             case(operation, "no bytes", &[]),
             case(operation, "25 bytes", &[0; 25]),
             case(operation, "27 bytes", &[0; 27]),
-            case(operation, "187 zeros", &[0; 26]).published("document 01, example 1", "0 (00*26)"),
+            case(operation, "187 zeros", &[0; 26]).published("document 01, example 1", "0:00*26."),
             case(operation, "all ones", &[255; 26]),
             case(operation, "zeros hit in B17 to B26", &hit([0; 26], 0, 10)),
         ]);
@@ -221,13 +221,11 @@ fn repairs() -> Vec<Case> {
             let ten = format!("ten of them from number {i} on");
             cases.extend([
                 case(operation, &eight, &generator_places(i, 8))
-                    .published("document 01, example 3", "800 (00*26)"),
+                    .published("document 01, example 3", "800:00*26."),
                 case(operation, &nine, &generator_places(i, 9))
-                    .published("document 01, example 4", "4 (a5*26)"),
-                case(operation, &ten, &generator_places(i, 10)).published(
-                    "document 01, example 5",
-                    "800 (00*15)4308c01110114014404110",
-                ),
+                    .published("document 01, example 4", "4:a5*26."),
+                case(operation, &ten, &generator_places(i, 10))
+                    .published("document 01, example 5", "800:00*15.4308c01110114014404110"),
             ]);
         }
     }

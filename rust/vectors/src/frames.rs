@@ -202,10 +202,10 @@ fn written() -> Vec<Case> {
         write(format!("place, {name} {value}"), &with(place, field, value))
     };
     cases.extend([
-        limit("latitude", LATITUDE, 900).published("document 01, example 8", "0 .."),
-        limit("latitude", LATITUDE, 901).published("document 01, example 8", "9 (ff*26)"),
+        limit("latitude", LATITUDE, 900).published("document 01, example 8", "0:.."),
+        limit("latitude", LATITUDE, 901).published("document 01, example 8", "9:ff*26."),
         limit("longitude", LONGITUDE, 1800),
-        limit("longitude", LONGITUDE, 1801).published("document 01, house limits", "9 (ff*26)"),
+        limit("longitude", LONGITUDE, 1801).published("document 01, house limits", "9:ff*26."),
     ]);
     for n in [0, 25, 27] {
         cases.push(write(format!("place, a buffer of {n}"), &place).lent(&vec![0xFF; n]));

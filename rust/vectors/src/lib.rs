@@ -241,17 +241,11 @@ fn in_runs(bytes: &[u8]) -> Vec<u8> {
 }
 
 fn bytes_text(bytes: &[u8]) -> String {
-    let text: String = runs(bytes)
-        .map(|(byte, n)| match n {
-            1 => format!("{byte:02x}"),
-            _ => format!("({byte:02x}*{n})"),
-        })
-        .collect();
-    if text.is_empty() {
-        text
-    } else {
-        format!(" {text}")
-    }
+    let text = runs(bytes).map(|(byte, n)| match n {
+        1 => format!("{byte:02x}"),
+        _ => format!("{byte:02x}*{n}."),
+    });
+    format!(":{}", text.collect::<String>())
 }
 
 fn values_text(values: &[u64]) -> String {
@@ -265,6 +259,8 @@ fn values_text(values: &[u64]) -> String {
 
 /// Whether an answer is the published one.
 fn agrees(answer: &str, published: &str) -> bool {
+    // A colon with nothing behind it is an empty slice.
+    let answer = answer.trim_end_matches(':');
     match (published.strip_prefix(".."), published.strip_suffix("..")) {
         (Some(end), _) => answer.ends_with(end),
         (_, Some(start)) => answer.starts_with(start),
