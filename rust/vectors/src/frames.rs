@@ -1,6 +1,6 @@
 //! Frames and records, reports and places.
-use crate::{hex, status, Call, Case, Lends, Operation};
-use reference::frame::{self, Record, IDENTIFICATION, LATITUDE, LONGITUDE};
+use crate::{hex, numbers, rows, status, Call, Case, Lends, Operation};
+use reference::frame::{self, Record, DEPTH, IDENTIFICATION, LATITUDE, LONGITUDE, SOUTH};
 use reference::place::{self, Place, Report};
 
 pub(crate) const OPERATIONS: [Operation; 8] = [
@@ -119,45 +119,20 @@ pub(crate) fn cases() -> Vec<Case> {
 // ---- the writer
 
 /// A record of each body.
-const BASES: [(&str, Record); 4] = [
-    (
-        "areas",
-        [
-            1,
-            0,
-            0,
-            3,
-            1_234_567_890,
-            0,
-            0xFF_FEFF_FFFF_FFFF,
-            0,
-            0,
-            0,
-            0,
-            0,
-            0,
-            0,
-            0,
-            0,
-            0,
-            0,
-        ],
-    ),
-    (
-        "place",
-        [
-            0, 1, 2, 1, 5, 1, 0, 1, 0, 300, 0, 1, 356, 1, 1397, 40, 900, 0,
-        ],
-    ),
-    (
-        "cancellation",
-        [0, 0, 1, 2, 5, 1, 0, 1, 1, 300, 1, 0, 0, 0, 0, 0, 0, 0],
-    ),
-    (
-        "no information",
-        [0, 0, 7, 0, 0, 0, 0, 0, 0, 0, 0, 0, 0, 0, 0, 0, 0, 2047],
-    ),
-];
+const BASES: &str = "
+areas | 1 0 0 3 1234567890 0 0xfffeffffffffff 0*11
+place | 0 1 2 1 5 1 0 1 0 300 0 1 356 1 1397 40 900 0
+cancellation | 0 0 1 2 5 1 0 1 1 300 1 0*7
+no information | 0 0 7 0*14 2047
+";
+
+fn bases() -> impl Iterator<Item = (&'static str, Record)> {
+    rows(BASES).map(|[body, fields]| (body, record(fields)))
+}
+
+fn record(text: &str) -> Record {
+    numbers(text).try_into().expect("18 numbers")
+}
 
 /// How many bits each field has where it is free.
 const WIDTHS: [u32; 18] = [1, 1, 3, 2, 31, 1, 56, 1, 1, 9, 1, 1, 10, 1, 11, 10, 10, 11];
@@ -175,7 +150,7 @@ fn write(what: impl Into<String>, record: &[u64]) -> Case {
 
 fn written() -> Vec<Case> {
     let mut cases = vec![];
-    for (body, base) in BASES {
+    for (body, base) in bases() {
         cases.push(write(format!("{body}: the record itself"), &base));
         for (field, width) in WIDTHS.into_iter().enumerate() {
             let past = 1u64 << width;
@@ -197,7 +172,7 @@ fn written() -> Vec<Case> {
             )
         }));
     }
-    let place = BASES[1].1;
+    let place = record("0 1 2 1 5 1 0 1 0 300 0 1 356 1 1397 40 900 0");
     let limit = |name: &str, field, value| {
         write(format!("place, {name} {value}"), &with(place, field, value))
     };
@@ -218,141 +193,54 @@ fn written() -> Vec<Case> {
 
 // ---- the reader
 
-/// Frames, each with what reading it answers where that is published.
-const FRAMES: [(&str, &str, &str); 25] = [
-    (
-        "all zero: no pattern",
-        "0000000000000000000000000000000000000000000000000000",
-        "3 ..",
-    ),
-    (
-        "pattern 0 with all else zero",
-        "1af7000000000000000000000000000000000000000000000000",
-        "0 0*18",
-    ),
-    (
-        "the same, B203 hit: the CRC is tested in the repaired word",
-        "1af7000000000000000000000000000000000000000000000010",
-        "100 0*18",
-    ),
-    (
-        "the same, B17 hit",
-        "1af7400000000000000000000000000000000000000000000000",
-        "100 0*18",
-    ),
-    (
-        "the same with eight places of the generator hit",
-        "1af7000000000000000000000000004308c01100000000000000",
-        "800 0*18",
-    ),
-    (
-        "the same with nine",
-        "1af7000000000000000000000000004308c01110000000000000",
-        "4 ..",
-    ),
-    (
-        "the generator's code word: a clean one whose CRC is wrong",
-        "1af7000000000000000000000000004308c01110114014404110",
-        "5 ..",
-    ),
-    (
-        "the same with B0",
-        "9af7000000000000000000000000000000000000000000000000",
-        "0 1 0*17",
-    ),
-    (
-        "a filler bit, before the pattern",
-        "0000000000000000000000000000000000000000000000000001",
-        "2 ..",
-    ),
-    (
-        "a filler bit alone",
-        "1af7000000000000000000000000000000000000000000000001",
-        "2 ..",
-    ),
-    (
-        "no pattern and nine hits",
-        "5af7000000000000000000000000004308c01110000000000000",
-        "3 ..",
-    ),
-    (
-        "identification 4, the CRC wrong",
-        "1af7040000000000000000000000dd3571e5e0074536075add60",
-        "5 ..",
-    ),
-    (
-        "identification 4, start/end 11",
-        "1af7640000000000000000000000dd6ba7e8239c630ae7c28140",
-        "6 ..",
-    ),
-    (
-        "identification 7, start/end 00, a fixed bit 0",
-        "1af7077fffffff805fffffffffffcd3b0241c13d6f14b3b28d70",
-        "7 ..",
-    ),
-    (
-        "identification 7, update 2, a fixed bit 0",
-        "1af777ffffffff00bfffffffffff3e583d134b51523b875a54e0",
-        "7 ..",
-    ),
-    (
-        "a place with B111 0, over its limits",
-        "1af7000000000100070a0000000071fee4dcd9339873b730f150",
-        "8 ..",
-    ),
-    (
-        "identification 5",
-        "1af70500000000000000000000004f521e5692041479a68c6810",
-        "6 ..",
-    ),
-    (
-        "a place of latitude 901",
-        "1af70a0000000ba58f0baea14709a335ac25ca42ddbf9efe2c30",
-        "9 ..",
-    ),
-    (
-        "no information, broadcaster 2047",
-        "1af77fffffffffffffffffffffff698fbee80b006e0824cd3d10",
-        "0 0*2 7 0*14 7ff",
-    ),
-    (
-        "a cancellation",
-        "1af70000000001001fffffffffffe43d0ff2f235a3cbf9db1c70",
-        "0 0*5 1 0*4 1 0*7",
-    ),
-    (
-        "a place, with B0",
-        "9af70a0000000ba58ac9aea147094cf61e307cb8e3e2d6661040",
-        "..",
-    ),
-    (
-        "areas, pattern 1",
-        "650893932c05a4fffeffffffffff8c1ebd699253f76e2e73da90",
-        "..",
-    ),
-    ("no bytes", "", "1 .."),
-    (
-        "25 bytes",
-        "1af70000000000000000000000000000000000000000000000",
-        "1 ..",
-    ),
-    (
-        "27 bytes",
-        "1af700000000000000000000000000000000000000000000000000",
-        "1 ..",
-    ),
-];
+/// Frames, each with what reading it answers by document 01's rules and examples, where the answer is on record.
+const FRAMES: &str = "
+0000000000000000000000000000000000000000000000000000 | 3 .. | no pattern: all zero (example 10)
+1af7000000000000000000000000000000000000000000000000 | 0 0*18 | all areas: pattern 0 with all else zero (example 11)
+1af7000000000000000000000000000000000000000000000010 | 100 0*18 | all areas, B203 hit: the CRC is tested in the repaired word
+1af7400000000000000000000000000000000000000000000000 | 100 0*18 | all areas, B17 hit
+1af7000000000000000000000000004308c01100000000000000 | 800 0*18 | all areas, eight hits
+1af7000000000000000000000000004308c01110000000000000 | 4 .. | nine hits
+1af7000000000000000000000000004308c01110114014404110 | 5 .. | CRC wrong in a clean code word, the generator
+9af7000000000000000000000000000000000000000000000000 | 0 1 0*17 | all areas with B0
+0000000000000000000000000000000000000000000000000001 | 2 .. | a filler bit, before the pattern
+1af7000000000000000000000000000000000000000000000001 | 2 .. | a filler bit alone
+5af7000000000000000000000000004308c01110000000000000 | 3 .. | no pattern and nine hits
+1af7040000000000000000000000dd3571e5e0074536075add60 | 5 .. | identification 4, the CRC wrong
+1af7640000000000000000000000dd6ba7e8239c630ae7c28140 | 6 .. | identification 4, start/end 11
+1af7077fffffff805fffffffffffcd3b0241c13d6f14b3b28d70 | 7 .. | identification 7, start/end 00, a fixed bit 0
+1af777ffffffff00bfffffffffff3e583d134b51523b875a54e0 | 7 .. | identification 7, update 2, a fixed bit 0
+1af7000000000100070a0000000071fee4dcd9339873b730f150 | 8 .. | a place with B111 0, over its limits
+1af70500000000000000000000004f521e5692041479a68c6810 | 6 .. | identification 5
+1af70a0000000ba58f0baea14709a335ac25ca42ddbf9efe2c30 | 9 .. | a place of latitude 901
+1af77fffffffffffffffffffffff698fbee80b006e0824cd3d10 | 0 0*2 7 0*14 7ff | no information, broadcaster 2047
+1af70000000001001fffffffffffe43d0ff2f235a3cbf9db1c70 | 0 0*5 1 0*4 1 0*7 | a cancellation
+9af70a0000000ba58ac9aea147094cf61e307cb8e3e2d6661040 | .. | place, with B0
+650893932c05a4fffeffffffffff8c1ebd699253f76e2e73da90 | .. | pattern 1, one area
+ | 1 .. | no bytes
+1af70000000000000000000000000000000000000000000000 | 1 .. | 25 bytes
+1af700000000000000000000000000000000000000000000000000 | 1 .. | 27 bytes
+";
+
+/// The frames, and what they are.
+pub(crate) fn frames() -> impl Iterator<Item = (Vec<u8>, &'static str)> {
+    rows(FRAMES).map(|[digits, _, what]| (hex(digits), what))
+}
+
+/// The frame whose description begins so.
+pub(crate) fn frame(name: &str) -> Vec<u8> {
+    let found = frames().find(|(_, what)| what.starts_with(name));
+    found.expect("a frame of that name").0
+}
 
 fn read() -> Vec<Case> {
     let case = |what: String, frame: &[u8]| Case::new("frame_read", what).input(frame).values(18);
-    let mut cases: Vec<Case> = FRAMES
-        .iter()
-        .map(|&(what, digits, answer)| {
-            case(what.to_owned(), &hex(digits))
-                .published("document 01, its rules and examples 10 and 11", answer)
+    let mut cases: Vec<Case> = rows(FRAMES)
+        .map(|[digits, answer, what]| {
+            case(what.to_owned(), &hex(digits)).published("document 01", answer)
         })
         .collect();
-    for (body, base) in BASES {
+    for (body, base) in bases() {
         let mut frame = [0; 26];
         frame::write(&base, &mut frame);
         cases.push(case(format!("{body}: what the writer wrote"), &frame));
@@ -360,7 +248,7 @@ fn read() -> Vec<Case> {
     for n in [0, 17, 19] {
         cases.push(
             Case::new("frame_read", format!("a record of {n} numbers"))
-                .input(&hex(FRAMES[1].1))
+                .input(&frame("all areas"))
                 .values(n),
         );
     }
@@ -385,7 +273,7 @@ fn areas() -> Vec<Case> {
             case("Tokyo alone", &tokyo, area).published("document 01: Tokyo is area 15", only),
         );
     }
-    for (body, base) in BASES {
+    for (body, base) in bases() {
         cases.push(case(body, &base, 15));
     }
     cases.push(case("a record of 17 numbers", &[0; 17], 15));
@@ -393,110 +281,50 @@ fn areas() -> Vec<Case> {
 }
 
 /// A place page: identification, south, latitude, west, longitude, depth.
-fn place_page([identification, south, latitude, west, longitude, depth]: [u64; 6]) -> Record {
-    [
-        0,
-        0,
-        identification,
-        3,
-        5,
-        1,
-        0,
-        1,
-        0,
-        300,
-        0,
-        south,
-        latitude,
-        west,
-        longitude,
-        depth,
-        900,
-        0,
-    ]
+const PLACES: &str = "
+a place | 0 0 356 0 1397 40
+south and west | 1 1 356 1 1397 40
+minus zero twice | 2 1 0 1 0 0
+the limits | 3 0 900 0 1800 1023
+0.3 and 0.9 degrees | 0 0 3 0 9 1
+latitude 901 | 0 0 901 0 1800 1023
+longitude 1801 | 0 0 900 0 1801 1023
+latitude too wide | 0 0 1024 0 1801 1023
+longitude too wide | 0 0 901 0 2048 1023
+south 2 | 0 2 0 0 0 0
+depth too wide | 0 0 0 0 0 1024
+identification 5, before all else | 5 0 901 0 2048 1024
+identification 8 | 8 0 0 0 0 0
+identification 7 with the fields of a place | 7 0 0 0 0 0
+";
+
+fn place_page(text: &str) -> Record {
+    let [identification, place @ ..] = &numbers(text)[..] else {
+        panic!("no place");
+    };
+    let mut record = record("0 0 0 3 5 1 0 1 0 300 0 0 0 0 0 0 900 0");
+    record[IDENTIFICATION] = *identification;
+    record[SOUTH..=DEPTH].copy_from_slice(place);
+    record
 }
 
-/// Records to report, most of them refused for one field.
-const REPORTED: [(&str, [u64; 6]); 14] = [
-    ("a place", [0, 0, 356, 0, 1397, 40]),
-    ("south and west", [1, 1, 356, 1, 1397, 40]),
-    ("minus zero twice", [2, 1, 0, 1, 0, 0]),
-    ("the limits", [3, 0, 900, 0, 1800, 1023]),
-    ("0.3 and 0.9 degrees", [0, 0, 3, 0, 9, 1]),
-    ("latitude 901", [0, 0, 901, 0, 1800, 1023]),
-    ("longitude 1801", [0, 0, 900, 0, 1801, 1023]),
-    ("latitude too wide", [0, 0, 1024, 0, 1801, 1023]),
-    ("longitude too wide", [0, 0, 901, 0, 2048, 1023]),
-    ("south 2", [0, 2, 0, 0, 0, 0]),
-    ("depth too wide", [0, 0, 0, 0, 0, 1024]),
-    (
-        "identification 5, before all else",
-        [5, 0, 901, 0, 2048, 1024],
-    ),
-    ("identification 8", [8, 0, 0, 0, 0, 0]),
-    (
-        "identification 7 with the fields of a place",
-        [7, 0, 0, 0, 0, 0],
-    ),
-];
-
-const REPORTED_TOO: [(&str, Record); 7] = [
-    (
-        "identification 7 with an update",
-        [0, 0, 7, 1, 0, 0, 0, 0, 0, 0, 0, 0, 0, 0, 0, 0, 0, 0],
-    ),
-    (
-        "a cancellation with a latitude",
-        [0, 0, 0, 1, 0, 1, 0, 0, 0, 0, 1, 0, 901, 0, 0, 0, 0, 0],
-    ),
-    (
-        "page 2",
-        [0, 0, 0, 1, 0, 2, 0, 0, 0, 0, 0, 0, 0, 0, 0, 0, 0, 0],
-    ),
-    (
-        "all areas",
-        [1, 1, 0, 3, 5, 0, 0, 0, 0, 0, 0, 0, 0, 0, 0, 0, 0, 0],
-    ),
-    (
-        "one area",
-        [
-            0,
-            0,
-            1,
-            3,
-            5,
-            0,
-            0xFF_FEFF_FFFF_FFFF,
-            0,
-            0,
-            0,
-            0,
-            0,
-            0,
-            0,
-            0,
-            0,
-            0,
-            0,
-        ],
-    ),
-    (
-        "a cancellation",
-        [0, 0, 3, 2, 5, 1, 0, 1, 1, 300, 1, 0, 0, 0, 0, 0, 0, 0],
-    ),
-    (
-        "no information",
-        [0, 0, 7, 0, 0, 0, 0, 0, 0, 0, 0, 0, 0, 0, 0, 0, 0, 2047],
-    ),
-];
+/// Other records.
+const RECORDS: &str = "
+identification 7 with an update | 0 0 7 1 0*14
+a cancellation with a latitude | 0 0 0 1 0 1 0*4 1 0 901 0*5
+page 2 | 0 0 0 1 0 2 0*12
+all areas | 1 1 0 3 5 0*13
+one area | 0 0 1 3 5 0 0xfffeffffffffff 0*11
+a cancellation | 0 0 3 2 5 1 0 1 1 300 1 0*7
+no information | 0 0 7 0*14 2047
+";
 
 fn reports() -> Vec<Case> {
     let case = |what: &str, record: &[u64]| Case::new("report", what).fields(record).values(3);
-    let mut cases: Vec<Case> = REPORTED
-        .map(|(what, fields)| case(what, &place_page(fields)))
-        .into();
-    cases.extend(REPORTED_TOO.map(|(what, record)| case(what, &record)));
-    let place = place_page(REPORTED[0].1);
+    let pages = rows(PLACES).map(|[what, page]| case(what, &place_page(page)));
+    let others = rows(RECORDS).map(|[what, fields]| case(what, &record(fields)));
+    let mut cases: Vec<Case> = pages.chain(others).collect();
+    let place = place_page("0 0 356 0 1397 40");
     for n in [0, 2, 4] {
         cases.push(case(&format!("a place of {n} doubles"), &place).values(n));
     }
@@ -509,86 +337,31 @@ fn reports() -> Vec<Case> {
 // ---- places
 
 /// Zeros, subnormals, the largest, infinities, NaNs; images, their neighbours and numbers near the limits.
-const PATTERNS: [u64; 51] = [
-    0x0000_0000_0000_0000,
-    0x8000_0000_0000_0000,
-    0x0000_0000_0000_0001,
-    0x8000_0000_0000_0001,
-    0x0010_0000_0000_0000,
-    0x7fe1_ccf3_85eb_c8a0,
-    0xffe1_ccf3_85eb_c8a0,
-    0x7fef_ffff_ffff_ffff,
-    0x7ff0_0000_0000_0000,
-    0xfff0_0000_0000_0000,
-    0x7ff8_0000_0000_0000,
-    0x7ff0_0000_0000_0001,
-    0x7fff_ffff_ffff_ffff,
-    0xfff8_0000_0000_0000,
-    0xfff4_0000_0000_0000,
-    0xffff_ffff_ffff_ffff,
-    0x3fb9_9999_9999_999a,
-    0xbfb9_9999_9999_999a,
-    0x3fd3_3333_3333_3333,
-    0x3fd3_3333_3333_3334,
-    0x3fec_cccc_cccc_cccc,
-    0x3fec_cccc_cccc_cccd,
-    0xbfec_cccc_cccc_cccc,
-    0x3fe0_0000_0000_0000,
-    0xbfe0_0000_0000_0000,
-    0x3fa9_9999_9999_999a,
-    0x3fc3_3333_3333_3333,
-    0x3ff0_0000_0000_0000,
-    0xbff0_0000_0000_0000,
-    0x4041_cccc_cccc_cccd,
-    0x4061_7666_6666_6666,
-    0x4056_8000_0000_0000,
-    0xc056_8000_0000_0000,
-    0x4056_8666_6666_6666,
-    0xc056_8666_6666_6666,
-    0x4066_8000_0000_0000,
-    0xc066_8000_0000_0000,
-    0x4066_8333_3333_3333,
-    0xc066_8333_3333_3333,
-    0x4056_8000_0000_0001,
-    0x4066_7fff_ffff_ffff,
-    0x408c_2000_0000_0000,
-    0x408f_f800_0000_0000,
-    0x408f_fc00_0000_0000,
-    0x4090_0000_0000_0000,
-    0xc08f_f800_0000_0000,
-    0x409c_2000_0000_0000,
-    0x43f0_0000_0000_0000,
-    0xc3f0_0000_0000_0000,
-    0x40b9_9980_0000_0000,
-    0x40ef_ffe0_0000_0000,
-];
+const PATTERNS: &str = "
+0x0000000000000000 0x8000000000000000 0x0000000000000001 0x8000000000000001 0x0010000000000000
+0x7fe1ccf385ebc8a0 0xffe1ccf385ebc8a0 0x7fefffffffffffff 0x7ff0000000000000 0xfff0000000000000
+0x7ff8000000000000 0x7ff0000000000001 0x7fffffffffffffff 0xfff8000000000000 0xfff4000000000000
+0xffffffffffffffff 0x3fb999999999999a 0xbfb999999999999a 0x3fd3333333333333 0x3fd3333333333334
+0x3feccccccccccccc 0x3feccccccccccccd 0xbfeccccccccccccc 0x3fe0000000000000 0xbfe0000000000000
+0x3fa999999999999a 0x3fc3333333333333 0x3ff0000000000000 0xbff0000000000000 0x4041cccccccccccd
+0x4061766666666666 0x4056800000000000 0xc056800000000000 0x4056866666666666 0xc056866666666666
+0x4066800000000000 0xc066800000000000 0x4066833333333333 0xc066833333333333 0x4056800000000001
+0x40667fffffffffff 0x408c200000000000 0x408ff80000000000 0x408ffc0000000000 0x4090000000000000
+0xc08ff80000000000 0x409c200000000000 0x43f0000000000000 0xc3f0000000000000 0x40b9998000000000
+0x40efffe000000000
+";
 
-/// Flags and tenths.
-const DEGREES: [(u64, u64); 17] = [
-    (0, 0),
-    (1, 0),
-    (0, 1),
-    (1, 1),
-    (0, 3),
-    (1, 3),
-    (0, 9),
-    (0, 356),
-    (0, 1397),
-    (0, 900),
-    (1, 900),
-    (0, 901),
-    (0, 1800),
-    (1, 1800),
-    (0, 1801),
-    (2, 5),
-    (0, u64::MAX),
+/// Tenths, with the flag 0 and with the flag 1.
+const TENTHS: [&str; 2] = [
+    "0 1 3 9 356 1397 900 901 1800 1801 18446744073709551615",
+    "0 1 3 900 1800",
 ];
 
 const KILOMETRES: [u64; 7] = [0, 1, 40, 1023, 1024, 9007199254740993, u64::MAX];
 
 fn places() -> Vec<Case> {
     let mut cases = vec![];
-    for bits in PATTERNS {
+    for bits in numbers(PATTERNS) {
         let x = f64::from_bits(bits);
         for (i, name) in ["latitude", "longitude", "depth"].into_iter().enumerate() {
             let mut numbers = [0; 3];
@@ -603,18 +376,15 @@ fn places() -> Vec<Case> {
     for n in [0, 4, 6] {
         cases.push(Case::new("desk", format!("{n} fields")).values(n));
     }
-    for (flag, tenths) in DEGREES {
-        let case =
-            Case::new("degrees", format!("flag {flag}, {tenths} tenths")).numbers(&[flag, tenths]);
-        cases.push(match (flag, tenths) {
-            (0, 3) => case.published("0.3 rounded once", "3fd3333333333333"),
-            (1, 0) => case.published(
-                "document 01: a southern 0 gives minus zero",
-                "8000000000000000",
-            ),
-            _ => case,
-        });
+    let image = |flag: u64, tenths: u64| {
+        Case::new("degrees", format!("flag {flag}, {tenths} tenths")).numbers(&[flag, tenths])
+    };
+    for (flag, tenths) in (0..).zip(TENTHS) {
+        cases.extend(numbers(tenths).into_iter().map(|n| image(flag, n)));
     }
+    cases.push(image(2, 5));
+    cases.push(image(0, 3).published("0.3 rounded once", "3fd3333333333333"));
+    cases.push(image(1, 0).published("document 01: minus zero", "8000000000000000"));
     cases.extend(KILOMETRES.map(|km| Case::new("kilometres", format!("{km}")).numbers(&[km])));
     cases
 }

@@ -1,5 +1,6 @@
 //! The cable header: judged, read, written, laid into and taken out of.
-use crate::{hex, status, Call, Case, Lends, Operation};
+use crate::frames::{frame, frames};
+use crate::{status, Call, Case, Lends, Operation};
 use reference::crc::crc32;
 use reference::header::*;
 use reference::{flip_bit, put};
@@ -172,7 +173,7 @@ pub(crate) fn cases() -> Vec<Case> {
         refusals(),
         forms(),
         order(),
-        frames(),
+        laid(),
         headers(),
     ]
     .concat()
@@ -369,106 +370,20 @@ fn order() -> Vec<Case> {
 
 // ---- laying in and taking out
 
-/// Frames that are laid in, and frames that are refused with each number from 2 to 9.
-const FRAMES: [(&str, &str); 16] = [
-    (
-        "all areas",
-        "1af7000000000000000000000000000000000000000000000000",
-    ),
-    (
-        "one hit",
-        "1af7000000000000000000000000000000000000000000000010",
-    ),
-    (
-        "eight hits",
-        "1af7000000000000000000000000004308c01100000000000000",
-    ),
-    ("B0", "9af7000000000000000000000000000000000000000000000000"),
-    (
-        "pattern 1",
-        "650893932c05a4fffeffffffffff8c1ebd699253f76e2e73da90",
-    ),
-    (
-        "place",
-        "9af70a0000000ba58ac9aea147094cf61e307cb8e3e2d6661040",
-    ),
-    (
-        "cancellation",
-        "1af70000000001001fffffffffffe43d0ff2f235a3cbf9db1c70",
-    ),
-    (
-        "no information",
-        "1af77fffffffffffffffffffffff698fbee80b006e0824cd3d10",
-    ),
-    (
-        "filler",
-        "1af7000000000000000000000000000000000000000000000001",
-    ),
-    (
-        "no pattern",
-        "0000000000000000000000000000000000000000000000000000",
-    ),
-    (
-        "nine hits",
-        "1af7000000000000000000000000004308c01110000000000000",
-    ),
-    (
-        "CRC",
-        "1af7000000000000000000000000004308c01110114014404110",
-    ),
-    (
-        "identification 5",
-        "1af70500000000000000000000004f521e5692041479a68c6810",
-    ),
-    (
-        "update 2 of 7",
-        "1af777ffffffff00bfffffffffff3e583d134b51523b875a54e0",
-    ),
-    (
-        "B111",
-        "1af7000000000100070a0000000071fee4dcd9339873b730f150",
-    ),
-    (
-        "latitude 901",
-        "1af70a0000000ba58f0baea14709a335ac25ca42ddbf9efe2c30",
-    ),
-];
-
-const ALL_AREAS: &str = FRAMES[0].1;
-const PATTERN_1: &str = FRAMES[4].1;
-const PLACE: &str = FRAMES[5].1;
-const NO_PATTERN: &str = FRAMES[9].1;
-const NINE_HITS: &str = FRAMES[10].1;
-
 fn lay(what: impl Into<String>, header: &[u8], frame: &[u8]) -> Case {
     Case::new("lay_in", what).lent(header).input(frame)
 }
 
-/// Each frame into the model header, and pieces that are no frame.
-fn frames() -> Vec<Case> {
-    let mut cases = vec![];
-    for (name, digits) in FRAMES {
-        let case = lay(
-            format!("into the model header: {name}"),
-            &model_header(),
-            &hex(digits),
-        );
-        cases.push(match name {
-            "all areas" | "one hit" | "eight hits" => {
-                case.published("example 11 in the model header", "..b0ac5a53")
-            }
-            _ => case,
-        });
-    }
-    let longer = [hex(ALL_AREAS), vec![0]].concat();
-    for n in [0, 25, 27] {
-        cases.push(lay(
-            format!("into the model header: {n} bytes"),
-            &model_header(),
-            &longer[..n],
-        ));
-    }
-    cases
+/// Each frame of the reader's table into the model header, and pieces that are no frame.
+fn laid() -> Vec<Case> {
+    let case = |(frame, what): (Vec<u8>, &str)| {
+        let case = lay(format!("model header: {what}"), &model_header(), &frame);
+        match what.starts_with("all areas") && !what.contains("B0") {
+            true => case.published("example 11 in the model header", "..b0ac5a53"),
+            false => case,
+        }
+    };
+    frames().map(case).collect()
 }
 
 /// A good frame and a refused one into headers that are refused, and taking out of them; frames in turn into one header.
@@ -484,8 +399,16 @@ fn headers() -> Vec<Case> {
     let mut cases = vec![];
     for (what, places, again, n) in refused {
         let header = &flipped(places, again)[..n];
-        cases.push(lay(format!("{what}, all areas"), header, &hex(ALL_AREAS)));
-        cases.push(lay(format!("{what}, no pattern"), header, &hex(NO_PATTERN)));
+        cases.push(lay(
+            format!("{what}, all areas"),
+            header,
+            &frame("all areas"),
+        ));
+        cases.push(lay(
+            format!("{what}, no pattern"),
+            header,
+            &frame("no pattern"),
+        ));
         cases.push(Case::new("take_out", what).lent(header));
     }
     cases.extend(in_turn("model", model_header()));
@@ -495,18 +418,14 @@ fn headers() -> Vec<Case> {
 
 fn in_turn(name: &str, mut header: Bytes) -> Vec<Case> {
     let mut cases = vec![];
-    for (what, digits) in [
-        ("place", PLACE),
-        ("place again", PLACE),
-        ("nine hits", NINE_HITS),
-        ("pattern 1", PATTERN_1),
-    ] {
+    for what in ["place", "place", "nine hits", "pattern 1"] {
+        let frame = frame(what);
         cases.push(lay(
             format!("{name} header in turn: {what}"),
             &header,
-            &hex(digits),
+            &frame,
         ));
-        lay_in(&mut header, &hex(digits));
+        lay_in(&mut header, &frame);
     }
     cases.extend(read_cases(&format!("{name} header after that"), &header));
     for what in ["taken out", "taken out twice"] {

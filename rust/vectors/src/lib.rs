@@ -268,6 +268,28 @@ fn agrees(answer: &str, published: &str) -> bool {
     }
 }
 
+/// The rows of a table: a line each, its columns parted by bars.
+fn rows<const N: usize>(table: &'static str) -> impl Iterator<Item = [&'static str; N]> {
+    let row = |line: &'static str| -> [&str; N] {
+        let columns: Vec<_> = line.split('|').map(str::trim).collect();
+        columns.try_into().expect("as many columns")
+    };
+    table.trim().lines().map(row)
+}
+
+/// Numbers, decimal or after `0x`, with `*n` where one stands n times.
+fn numbers(text: &str) -> Vec<u64> {
+    let number = |digits: &str| match digits.strip_prefix("0x") {
+        Some(digits) => u64::from_str_radix(digits, 16),
+        None => digits.parse(),
+    };
+    let run = |word: &str| {
+        let (digits, n) = word.split_once('*').unwrap_or((word, "1"));
+        vec![number(digits).expect("a number"); n.parse().expect("a count")]
+    };
+    text.split_whitespace().flat_map(run).collect()
+}
+
 /// Bytes from their digits.
 fn hex(digits: &str) -> Vec<u8> {
     (0..digits.len() / 2)
