@@ -1,44 +1,20 @@
 // Runs test cases of frames, records, reports and places: see `test_cases`. The cases, and what they must answer, come from rust/vectors.
 use test_cases::Case;
 
-// ---- doubles, by their bits
+// ---- reports and places, doubles by their bits
 
-fn double_at(s: &[u64], i: usize) -> f64 {
-    if i < s.len() {
-        test_cases::double(s[i])
-    } else {
-        0.0
+fn put_doubles(s: &[f64; 4]) {
+    for i in 0..4 {
+        test_cases::hex(test_cases::bits_of(s[i]));
     }
 }
 
-fn put_double(s: &mut [u64], i: usize, x: f64) {
-    if i < s.len() {
-        s[i] = test_cases::bits_of(x);
-    }
-}
-
-// The doubles that are lent, up to four.
-fn doubles_of(lent: &[u64]) -> [f64; 4] {
-    [
-        double_at(lent, 0),
-        double_at(lent, 1),
-        double_at(lent, 2),
-        double_at(lent, 3),
-    ]
-}
-
-fn put_doubles(lent: &mut [u64], doubles: [f64; 4]) {
-    put_double(lent, 0, doubles[0]);
-    put_double(lent, 1, doubles[1]);
-    put_double(lent, 2, doubles[2]);
-    put_double(lent, 3, doubles[3]);
-}
-
-fn report(fields: &[u64], lent: &mut [u64]) -> u64 {
-    let mut place = doubles_of(lent);
-    let n = bits::smaller(lent.len(), 4);
+// Lends so many of four doubles, and tells them all.
+fn report(fields: &[u64], before: f64, lent: usize) -> u64 {
+    let mut place = [before; 4];
+    let n = bits::smaller(lent, 4);
     let status = abi_place::report(fields, &mut place[0..n]) as u64;
-    put_doubles(lent, place);
+    put_doubles(&place);
     status
 }
 
@@ -84,7 +60,7 @@ fn status_of(case: Case, input: &[u8], fields: &[u64], lent: &mut [u64]) -> u64 
     match operation {
         0 => abi_frame::frame_read(input, lent) as u64,
         1 => abi_frame::warned(fields, case.a) as u64,
-        2 => report(fields, lent),
+        2 => report(fields, test_cases::double(case.a), case.b as usize),
         3 => desk(case.a, case.b, case.c, lent),
         4 => degrees(case.a, case.b),
         5 => test_cases::bits_of(place::kilometres(case.a)),
@@ -109,16 +85,20 @@ fn frame_write(fields: &[u64], frame: &mut [u8]) -> bool {
     test_cases::end_bytes(frame)
 }
 
+fn dispatch(case: Case, input: &[u8], fields: &[u64], lent: &mut [u8]) -> bool {
+    if case.operation < 7 {
+        return answer(case, input, fields, lent);
+    }
+    if case.operation == 7 {
+        return frame_write(fields, lent);
+    }
+    test_cases::wrong().found
+}
+
 fn run(case: Case, input: &[u8], lent: &mut [u8]) -> bool {
     let mut fields = test_cases::no_values();
     let n = test_cases::values(input, &mut fields);
-    if case.operation < 7 {
-        return answer(case, input, &fields[0..n], lent);
-    }
-    if case.operation == 7 {
-        return frame_write(&fields[0..n], lent);
-    }
-    test_cases::wrong().found
+    dispatch(case, input, &fields[0..n], lent)
 }
 
 // Reads and answers case n; whether there may be a next one.

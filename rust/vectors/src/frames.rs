@@ -71,24 +71,26 @@ fn bits_of(x: f64) -> u64 {
     }
 }
 
+/// So many of four doubles are lent, and all four are told.
 fn reported(call: &mut Call) -> u64 {
-    // The program tells every NaN as one.
-    for value in &mut call.values {
-        *value = bits_of(f64::from_bits(*value));
-    }
-    let record = match record_of(&call.fields) {
-        Some(record) if call.values.len() == 3 => record,
-        _ => return status(1, 0),
+    let [before, lent, _] = call.numbers;
+    let mut place = [f64::from_bits(before); 4];
+    let (status, doubles) = match record_of(&call.fields) {
+        Some(record) if lent == 3 => report_status(&record),
+        _ => (status(1, 0), vec![]),
     };
-    match place::report(&record) {
-        Ok(Report::Place(p)) => {
-            call.values = [p.latitude, p.longitude, p.depth].map(bits_of).to_vec();
-            status(0, 1)
-        }
-        Ok(Report::Cancellation) => status(0, 2),
-        Ok(Report::AreasOnly) => status(0, 3),
-        Ok(Report::Nothing) => status(0, 0),
-        Err(number) => status(number, 0),
+    place[..doubles.len()].copy_from_slice(&doubles);
+    call.told = place.map(bits_of).to_vec();
+    status
+}
+
+fn report_status(record: &Record) -> (u64, Vec<f64>) {
+    match place::report(record) {
+        Ok(Report::Place(p)) => (status(0, 1), vec![p.latitude, p.longitude, p.depth]),
+        Ok(Report::Cancellation) => (status(0, 2), vec![]),
+        Ok(Report::AreasOnly) => (status(0, 3), vec![]),
+        Ok(Report::Nothing) => (status(0, 0), vec![]),
+        Err(number) => (status(number, 0), vec![]),
     }
 }
 
@@ -320,17 +322,25 @@ no information | 0 0 7 0*14 2047
 ";
 
 fn reports() -> Vec<Case> {
-    let case = |what: &str, record: &[u64]| Case::new("report", what).fields(record).values(3);
+    let lent = |what: &str, fields: &[u64], before: f64, n| {
+        let numbers = [before.to_bits(), n];
+        Case::new("report", what).fields(fields).numbers(&numbers)
+    };
+    let case = |what: &str, fields: &[u64]| lent(what, fields, 12.5, 3);
     let pages = rows(PLACES).map(|[what, page]| case(what, &place_page(page)));
     let others = rows(RECORDS).map(|[what, fields]| case(what, &record(fields)));
     let mut cases: Vec<Case> = pages.chain(others).collect();
     let place = place_page("0 0 356 0 1397 40");
     for n in [0, 2, 4] {
-        cases.push(case(&format!("a place of {n} doubles"), &place).values(n));
+        cases.push(lent(&format!("a place of {n} doubles"), &place, 12.5, n));
     }
     cases.push(case("a record of 17 numbers", &place[..17]));
-    let nan = 0x7ff8_0000_0000_0001u64.to_be_bytes().repeat(3);
-    cases.push(case("all areas: a lent NaN stays one", &[0; 18]).lent(&nan));
+    cases.push(lent(
+        "all areas: a lent NaN stays one",
+        &[0; 18],
+        f64::NAN,
+        3,
+    ));
     cases
 }
 
