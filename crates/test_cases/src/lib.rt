@@ -2,7 +2,7 @@
 //
 // A case is an operation's number, a byte; the lengths of its two slices in bytes, two bytes each, most significant first; the runs of three numbers of eight bytes and
 // of the first slice; and the runs of the second slice, which is lent to be written. A run is two bytes: how often a byte stands in a row, and the byte. A slice of numbers
-// has eight bytes for each, most significant first, and so has one of doubles, their bits.
+// has eight bytes for each, most significant first; a double is the number that its bits make up.
 //
 // An answer is a line: the case's number, a status, and the lent slice as it stands after the call, bytes after a colon, numbers after a space each, all hexadecimal but the
 // case's number. What stands n times in a row is written once, with `*n`, and of bytes a point.
@@ -37,7 +37,9 @@ fn wide(b: u8) -> usize {
 // The next run; of no byte where the input has ended.
 fn next_run() -> Run {
     let mut pair = [0u8; 2];
-    io::read_full(STDIN_FILENO, &mut pair);
+    if io::read_full(STDIN_FILENO, &mut pair) != 2 {
+        return Run { count: 0, byte: 0 };
+    }
     Run {
         count: wide(pair[0]),
         byte: pair[1],
@@ -170,7 +172,7 @@ pub fn values(s: &[u8], out: &mut [u64]) -> usize
     bits::smaller(s.len() / 8, out.len())
 }
 
-// The double with these bits. The language has one NaN and not its bits: which of three sums makes it goes by the sign and the highest bit of the fraction.
+// The double with these bits. The language has one NaN and not its bits: which of three divisions or differences makes it goes by the sign and the highest bit of the fraction.
 pub fn double(bits: u64) -> f64 {
     if bits % 0x8000000000000000 / 0x10000000000000 == 2047 {
         if bits % 0x10000000000000 != 0 {

@@ -41,7 +41,7 @@ fn longitude_of(bits: u64) -> u64 {
     fields[2] << 11 | fields[3]
 }
 
-// What the desk makes of the images of the tenths up to a number, with some of their bits turned over, into the lent numbers; the status is the sum of the images' bits.
+// What the desk makes of the images of the tenths from a number on, with some of their bits turned over, into the lent numbers; the status is the sum of the images' bits.
 fn longitudes(flag: u64, first: u64, turned: u64, out: &mut [u64]) -> u64 {
     let mut sum = 0;
     for i in 0..out.len() {
