@@ -4,17 +4,17 @@ use test_cases::Case;
 // The CRC-10 from a bit on, of no bit, of one, and so on; and of all of them.
 fn crc10_counts(s: &[u8], at: usize, count: usize) -> u64 {
     for i in 0..count {
-        test_cases::hex(crc::crc10(s, at, i) as u64);
+        test_cases::hex(crc10::crc10(s, at, i) as u64);
     }
-    crc::crc10(s, at, count) as u64
+    crc10::crc10(s, at, count) as u64
 }
 
 // The CRC-32 of nothing, of the first byte, of the first two, and so on; and of all.
 fn crc32_lengths(s: &[u8]) -> u64 {
     for i in 0..s.len() {
-        test_cases::hex(crc::crc32(&s[0..i]) as u64);
+        test_cases::hex(crc32::crc32(&s[0..i]) as u64);
     }
-    crc::crc32(s) as u64
+    crc32::crc32(s) as u64
 }
 
 fn encode(frame: &mut [u8]) -> u64 {
@@ -24,9 +24,9 @@ fn encode(frame: &mut [u8]) -> u64 {
 
 fn answer(operation: u8, a: usize, b: usize, input: &[u8], lent: &mut [u8]) -> u64 {
     match operation {
-        0 => crc::crc10(input, a, b) as u64,
+        0 => crc10::crc10(input, a, b) as u64,
         1 => crc10_counts(input, a, b),
-        2 => crc::crc32(input) as u64,
+        2 => crc32::crc32(input) as u64,
         3 => crc32_lengths(input),
         4 => encode(lent),
         5 => abi_repair::repair(input, lent) as u64,

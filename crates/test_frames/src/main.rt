@@ -28,7 +28,7 @@ fn desk(a: u64, b: u64, c: u64, lent: &mut [u64]) -> u64 {
 }
 
 fn degrees(flag: u64, tenths: u64) -> u64 {
-    test_cases::bits_of(place::degrees(flag, tenths))
+    test_cases::bits_of(place_images::degrees(flag, tenths))
 }
 
 // What the desk makes of a longitude alone: its tenths, and 2048 for west; or 4096 and the refusal.
@@ -63,7 +63,7 @@ fn status_of(case: Case, input: &[u8], fields: &[u64], lent: &mut [u64]) -> u64 
         2 => report(fields, test_cases::double(case.a), case.b as usize),
         3 => desk(case.a, case.b, case.c, lent),
         4 => degrees(case.a, case.b),
-        5 => test_cases::bits_of(place::kilometres(case.a)),
+        5 => test_cases::bits_of(place_images::kilometres(case.a)),
         _ => longitudes(case.a, case.b, case.c, lent),
     }
 }

@@ -3,7 +3,7 @@ use test_cases::Case;
 
 fn seal(header: &mut [u8]) -> u64 {
     if header.len() == 188 {
-        header_codec::seal(header);
+        header_writer::seal(header);
     }
     0
 }
@@ -29,7 +29,7 @@ fn comes_back(header: &[u8]) -> bool {
 
 // The refusal of a header; 255 where it is accepted and does not come back.
 fn refusal(header: &[u8]) -> u64 {
-    let number = header_codec::refusal(header) as u64;
+    let number = header_reader::refusal(header) as u64;
     if number == 0 && !comes_back(header) {
         255
     } else {
@@ -62,11 +62,11 @@ fn each_bit(header: &mut [u8], end: u64, again: u64) -> u64 {
 fn status_of(case: Case, input: &[u8], fields: &[u64], lent: &mut [u8]) -> u64 {
     let operation = case.operation;
     match operation {
-        0 => header_codec::refusal(input) as u64,
+        0 => header_reader::refusal(input) as u64,
         1 => abi_header::header_write(fields, lent) as u64,
         2 => seal(lent),
-        3 => abi_header::lay_in(lent, input) as u64,
-        4 => abi_header::take_out(lent) as u64,
+        3 => abi_laying::lay_in(lent, input) as u64,
+        4 => abi_laying::take_out(lent) as u64,
         _ => each_bit(lent, case.a, case.b),
     }
 }

@@ -1,7 +1,7 @@
 // Runs test cases of the follower and of the captures: see `test_cases`. The cases, and what they must answer, come from rust/vectors.
-use follower::Event;
 use follower::Follower;
-use follower::Kind;
+use follower_events::Event;
+use follower_events::Kind;
 use test_cases::Case;
 
 // ---- the follower from any update number: a state is a kind, 0 quiet, 1 real, 2 test, and an update number
