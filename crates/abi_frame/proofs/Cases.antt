@@ -13,7 +13,6 @@ use Rattle.frame.specs.Area.{warnedIn}
 use Rattle.frame.proofs.Promises.{demand2}
 use Rattle.frame.specs.declared.Record.{Record}
 use Rattle.frame.specs.declared.Damage.{Damage}
-use Rattle.frame.specs.declared.Reading.{Reading}
 use Rattle.frame.specs.declared.Reading.the-variants.{Accepted, Refused}
 use Rattle.abi.specs.Status.{statusOf}
 use Rattle.abi_frame.specs.Frame.{frameReadStatus, frameReadRecord, warnedStatus}

@@ -4,7 +4,7 @@ use mathlib.Core.Bool.{Bool, false, not}
 use mathlib.Core.List.{List, [], _++_}
 use Prim.Native.Nat.{ℕ, _+_, _-_, _/_, _^_, _≤_, _<_}
 use native.Mathlib.Omega.{arith}
-use lib.ListN.{length, getD, drop, List·getD-append}
+use lib.ListN.{getD, drop, List·getD-append}
 use lib.Seq.{getD-append-add, getD-take, getD-drop}
 use borrow.Author.Tests.{eq-eqb, le-leb}
 use Rattle.bits.specs.Bits.{odd, bitsOf, bits}
@@ -12,11 +12,9 @@ use Rattle.bits.specs.Layout.{pack}
 use Rattle.bits.specs.Segment.{widths, withFixed, packSegments}
 use Rattle.bits.proofs.Bits.{length-bitsOf, getD-bitsOf}
 use Rattle.frame.specs.Area.{warnedIn}
-use Rattle.frame.specs.Entry.{segmentsOf, indicesOf}
-use Rattle.frame.specs.Body.{row, layout, indices}
+use Rattle.frame.specs.Body.{row, layout}
 use Rattle.frame.specs.Identification.{classOf}
 use Rattle.frame.specs.Fields.{gather, bodyValues, recordBody}
-use Rattle.frame.specs.Read.{detailsIn}
 use Rattle.frame.specs.Write.{frameOf}
 use Rattle.frame.specs.declared.Body.{Body}
 use Rattle.frame.specs.declared.Body.the-variants.{AreaPage}

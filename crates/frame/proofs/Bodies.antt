@@ -1,5 +1,5 @@
 -- Laws of the bodies: what a legal record puts into its body, and the record that stands in a body's values. Assumes nothing.
-use mathlib.Core.Path.{_≡_, refl, sym, ap, ap₂, _∙_, subst}
+use mathlib.Core.Path.{_≡_, refl, sym, ap, _∙_, subst}
 use mathlib.Core.Bool.{Bool, true, false, cond, and-eq-true-iff, _&&_}
 use mathlib.Core.Logic.{_≢_}
 use mathlib.Core.List.{List, [], _∷_}
@@ -8,7 +8,7 @@ use native.Mathlib.Omega.{arith}
 use lib.Dec.{eqb}
 use lib.ListN.{length, getD, take, drop, replicate}
 use lib.Seq.{drop-drop}
-use borrow.Author.Tests.{eqb-true, eqb-false, eq-eqb, ne-eqb, not-false}
+use borrow.Author.Tests.{eqb-true, eqb-false, ne-eqb, not-false}
 use Rattle.bits.specs.Bits.{value}
 use Rattle.bits.specs.Layout.{unpack, sum, Fit, fitb}
 use Rattle.bits.specs.Segment.{widths, freeWidths, free, withFixed, packSegments, unpackSegments}
@@ -25,7 +25,7 @@ use Rattle.frame.specs.declared.Class.the-variants.{Warning, Silent, Und
 use Rattle.frame.specs.declared.Body.{Body}
 use Rattle.frame.specs.declared.Body.the-variants.{AreaPage, PlacePage, CancelPage, NoInformation}
 use Rattle.frame.specs.declared.Record.{Record}
-use Rattle.frame.proofs.Indices.{length-gather, length-scatter, absent, apart, scatter-other, scatter-shared, gather-scatter, fit-at, fit-gather, fit-scatter, Agree, next, agree-scatter, agree-fit, agree-none}
+use Rattle.frame.proofs.Indices.{length-scatter, absent, apart, scatter-other, scatter-shared, gather-scatter, fit-at, fit-gather, fit-scatter, Agree, next, agree-scatter, agree-fit, agree-none}
 
 -- ---- which body it is
 

@@ -10,8 +10,8 @@ use lib.ListN.{length, take, drop, length-append}
 use borrow.Author.Tests.{eq-eqb, eqb-true}
 use Rattle.bits.specs.Bits.{value, bitsOf, bits}
 use Rattle.bits.specs.Field.{fieldAt}
-use Rattle.bits.specs.Layout.{sum, Fit}
-use Rattle.bits.specs.Segment.{widths, packSegments, unpackSegments, fixedBitsHold}
+use Rattle.bits.specs.Layout.{Fit}
+use Rattle.bits.specs.Segment.{packSegments, unpackSegments, fixedBitsHold}
 use Rattle.bits.specs.Refusal.{firstRefusal, NoneGiven}
 use Rattle.bits.proofs.Bits.{length-bitsOf, length-bytes, bits-bytes, value-bitsOf-fit, value-zeros}
 use Rattle.bits.proofs.Segment.{length-packSegments, unpack-packSegments, fixed-packSegments}

@@ -13,11 +13,6 @@ use borrow.Author.Tests.{ltb-true, eqb-false, not-true}
 use Rattle.bits.specs.Layout.{Fit}
 use Rattle.frame.specs.Fields.{gather, scatter}
 
-pub length-gather : (ks f : List ℕ) → length (gather ks f) ≡ length ks
-unfolding gather
-length-gather [] f = refl
-length-gather (k ∷ ks) f = ap suc (length-gather ks f)
-
 pub length-scatter : (ks vs f : List ℕ) → length (scatter ks vs f) ≡ length f
 unfolding scatter
 length-scatter [] vs f = refl

@@ -23,7 +23,7 @@ use Rattle.dsc.proofs.Distance.{dist-none, dist-same}
 use Rattle.dsc.proofs.Answers.{length-protected, protected-wordBytes, repair-found}
 use Rattle.frame.specs.Pattern.{patternWord, patternOf}
 use Rattle.frame.specs.Body.{row}
-use Rattle.frame.specs.Fields.{fields, recordBody}
+use Rattle.frame.specs.Fields.{recordBody}
 use Rattle.frame.specs.Read.{identificationIn, bodyIn, valuesIn, recordIn, frameRefusal, placesIn, judgeOf, readOf, readingNumber, readingPlaces, readingFields, cleanOf}
 use Rattle.frame.specs.Area.{warnedIn}
 use Rattle.frame.specs.Write.{Legal, messageBits, recordRefusal, frameOf, writeNumber, writeOf}

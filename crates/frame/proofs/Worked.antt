@@ -18,9 +18,8 @@ use Rattle.bits.proofs.Refusal.{refusal-here, refusal-later, refusal-append-giv
 use Rattle.dsc.specs.Repair.{numberOf, repairOf}
 use Rattle.frame.specs.Pattern.{patternWord, patternOf}
 use Rattle.frame.specs.Identification.{classOf, isUndefined}
-use Rattle.frame.specs.Entry.{segmentsOf, indicesOf}
-use Rattle.frame.specs.Body.{row, layout, indices}
-use Rattle.frame.specs.Fields.{fields, scatter, beforeDetails, inFields, fieldWidths, recordBody, overLimit}
+use Rattle.frame.specs.Body.{row, layout}
+use Rattle.frame.specs.Fields.{fields, scatter, fieldWidths, recordBody, overLimit}
 use Rattle.frame.specs.Area.{warnedIn}
 use Rattle.frame.specs.Read.{beforeRepair, afterRepair, frameRefusal, readOf}
 use Rattle.frame.specs.Write.{Legal, recordRefusal, frameOf}

@@ -1,5 +1,5 @@
 -- Judging and reading a frame (document 01, "When the box says no"). Assumes nothing.
-use mathlib.Core.Bool.{Bool, true, false, cond, not}
+use mathlib.Core.Bool.{Bool, cond, not}
 use mathlib.Core.List.{List, [], _∷_, _++_}
 use Prim.Native.Nat.{ℕ}
 use lib.Dec.{eqb}
@@ -12,13 +12,12 @@ use Rattle.bits.specs.Refusal.{firstRefusal}
 use Rattle.crc.specs.Crc.{crc10Of}
 use Rattle.dsc.specs.Repair.{protected, numberOf, placesOf, repairOf}
 use Rattle.frame.specs.Pattern.{patternWord, patternOf}
-use Rattle.frame.specs.Identification.{classOf, updateOf, flagsWrong, isUndefined}
+use Rattle.frame.specs.Identification.{classOf, flagsWrong, isUndefined}
 use Rattle.frame.specs.Body.{bodyOf, layout}
 use Rattle.frame.specs.Fields.{fields, overLimit, recordOf}
 use Rattle.frame.specs.declared.Class.{Class}
 use Rattle.frame.specs.declared.Body.{Body}
 use Rattle.frame.specs.declared.Record.{Record}
-use Rattle.frame.specs.declared.Damage.{Damage}
 use Rattle.frame.specs.declared.Verdict.{Verdict}
 use Rattle.frame.specs.declared.Cleaned.{Cleaned}
 use Rattle.frame.specs.declared.Reading.{Reading}

@@ -1,11 +1,11 @@
 -- Writing a record (document 01, "The frame, bit by bit" and "When the box says no"). Assumes nothing.
 use mathlib.Core.Path.{_≡_}
-use mathlib.Core.Bool.{Bool, true, false, cond, not}
+use mathlib.Core.Bool.{Bool, cond, not}
 use mathlib.Core.List.{List, [], _∷_, _++_}
 use Prim.Native.Nat.{ℕ}
 use lib.Dec.{eqb}
 use lib.ListN.{length}
-use Rattle.bits.specs.Bits.{bits, bytes, bitsOf}
+use Rattle.bits.specs.Bits.{bytes, bitsOf}
 use Rattle.bits.specs.Segment.{packSegments}
 use Rattle.bits.specs.Refusal.{firstRefusal}
 use Rattle.crc.specs.Crc.{crc10}

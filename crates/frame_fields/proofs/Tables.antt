@@ -5,11 +5,11 @@ use mathlib.Core.List.{List, [], _∷_, _++_, append-assoc, append-nil}
 use Prim.Native.Nat.{ℕ, zero, suc, _+_, _-_, _*_, _^_, _≤_, _<_}
 use native.Mathlib.Omega.{arith}
 use lib.Dec.{eqb, leb, ltb}
-use lib.ListN.{length, getD, take, drop, set, replicate, length-append, length-drop, drop-of-length-le}
+use lib.ListN.{length, take, drop, set, replicate, length-append, length-drop, drop-of-length-le}
 use lib.Seq.{paste, take-nil, take-take, take-all, drop-at, take-at, take-add, take-append-le, drop-drop, length-take-le}
 use borrow.Author.Tests.{eqb-true, eqb-false, eq-eqb, ne-eqb, ltb-true, leb-true, not-true, not-false}
 use Rattle.bits.specs.Bits.{odd, value, bitsOf, bits}
-use Rattle.bits.specs.Field.{fieldAt, putOf}
+use Rattle.bits.specs.Field.{putOf}
 use Rattle.bits.specs.Layout.{pack, unpack, sum, Layout, layoutb}
 use Rattle.bits.specs.Segment.{fixedOnes, segment, widths, freeWidths, holds, fixedHold, free, withFixed, packSegments, unpackSegments, fixedBitsHold}
 use Rattle.bits.proofs.Bits.{length-bitsOf, length-bits, bits-drop, bits-append, bits-take, value-take-lt, value-append}

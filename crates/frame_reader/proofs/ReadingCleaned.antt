@@ -20,8 +20,6 @@ use Rattle.frame.specs.Pattern.{patternWord, patternOf}
 use Rattle.frame.specs.Read.{recordIn, frameRefusal, readOf, cleanOf}
 use Rattle.frame_reader.specs.Examined.{examinedOf}
 use Rattle.frame.specs.Read.{cleanedOf}
-use Rattle.frame.specs.declared.Body.{Body}
-use Rattle.frame.specs.declared.Body.the-variants.{AreaPage, PlacePage, CancelPage, NoInformation}
 use Rattle.frame.specs.declared.Record.{Record}
 use Rattle.frame.specs.declared.Damage.{Damage}
 use Rattle.frame_reader.specs.declared.Examined.{Examined}

@@ -1,5 +1,5 @@
 -- A reported place, its fields, and the record with other ones. Assumes nothing.
-use mathlib.Core.Path.{_≡_, _∙_, refl, sym, ap, ap₂, subst}
+use mathlib.Core.Path.{_≡_, _∙_, refl, sym, ap, subst}
 use mathlib.Core.Bool.{Bool, true, false}
 use mathlib.Core.Logic.{_≢_}
 use Prim.Native.Nat.{ℕ, _≤_, _<_}
@@ -22,7 +22,6 @@ use Rattle.place.specs.Degrees.{placeOf}
 use Rattle.place.specs.Desk.{Allowed}
 use Rattle.place.specs.declared.Place.{Place}
 use Rattle.place.specs.declared.Fields.{Fields}
-use Rattle.report.specs.declared.Reported.{Reported}
 use Rattle.report.specs.Report.{reportedBy, reportOf}
 use Rattle.report.specs.Promises.{placeFields, withPlace, reportsPlace}
 use Rattle.report.proofs.Cases.{legal, refused}

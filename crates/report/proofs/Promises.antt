@@ -3,7 +3,6 @@ use mathlib.Core.Path.{_≡_, _∙_, refl, sym, ap, subst}
 use mathlib.Core.Bool.{Bool, true, false}
 use mathlib.Core.Logic.{_≢_}
 use mathlib.Core.List.{[], _∷_}
-use Prim.Native.Nat.{ℕ}
 use lib.Dec.{eqb}
 use borrow.Author.Tests.{eqb-true, eqb-false}
 use Rattle.frame.specs.Fields.{recordBody}
@@ -15,13 +14,12 @@ use Rattle.place.specs.Degrees.{degreesOf, kilometresOf, placeOf}
 use Rattle.place.specs.Desk.{SameBits, conversionOf}
 use Rattle.place.specs.declared.Place.{Place}
 use Rattle.place.specs.declared.Fields.{Fields}
-use Rattle.place.specs.declared.Conversion.{Conversion}
 use Rattle.place.specs.declared.Conversion.the-variants.{Converted}
 use Rattle.place.proofs.Promises.{degrees-laws}
 use Rattle.report.specs.Report.{reportedBy, reportOf, reportNumber, reportDoubles}
 use Rattle.report.specs.Promises.{placeFields, withPlace, reportsPlace, Reports}
 use Rattle.report.proofs.Cases.{legal, refused}
-use Rattle.report.proofs.Places.{allowed, with-body, with-legal, with-own, Reporter, reporter}
+use Rattle.report.proofs.Places.{allowed, with-body, with-legal, with-own, reporter}
 
 body-number : (b : Body) (r : Record) → reportNumber (reportedBy b r) ≡ 0
 body-number AreaPage r = refl

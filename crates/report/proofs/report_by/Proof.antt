@@ -1,5 +1,5 @@
 -- `report::report_by` meets its contract. Assumes nothing.
-use mathlib.Core.Path.{_≡_, sym}
+use mathlib.Core.Path.{_≡_}
 use borrow.Author.Needs.{needs}
 use Rattle.report.proofs.report_by.Statement.{statement}
 use Rattle.report.proofs.report_by.Tie as tie
