@@ -76,7 +76,7 @@ pub record Bounded (s : Span) : Type 0 where
   pub before : s .before ≤ 7
   pub after : s .after < 64
   pub ordered : s .from ≤ s .to
-  pub within : s .to ≤ 18
+  pub within : s .to ≤ fieldCount
 
 pub bounded : (b : Body) {s : Span} → s ≡ spanOf b → Bounded s
 bounded b e =
@@ -244,8 +244,8 @@ module _ (b : Body) (s : List ℕ) {sp : Span} {ws : List ℕ} (es : sp ≡ span
   pub count-in : (l : List ℕ) → length l ≡ fieldCount → length (between (sp .from) (sp .to) l) ≡ length (between (sp .from) (sp .to) ws)
   count-in l e =
       let o = bounded b es in
-      length-between (sp .from) (sp .to) 18 l (o .ordered) (o .within) e
-      ∙ sym (length-between (sp .from) (sp .to) 18 ws (o .ordered) (o .within) (length-widths b ew))
+      length-between (sp .from) (sp .to) fieldCount l (o .ordered) (o .within) e
+      ∙ sym (length-between (sp .from) (sp .to) fieldCount ws (o .ordered) (o .within) (length-widths b ew))
 
   pub fields-found : {last : List ℕ} → last ≡ unpack (between (sp .from) (sp .to) ws) (bits (take (length s - sp .before) (drop (sp .before) s)))
       → let z : List ℕ = replicate fieldCount 0 in take (sp .from) z ++ (last ++ drop (sp .to - sp .from) (drop (sp .from) z)) ≡ fieldsRead b (bits s)
