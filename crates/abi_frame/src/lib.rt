@@ -30,10 +30,8 @@ pub fn frame_write(values: &[u64], frame: &mut [u8]) -> u32
     if values.len() != FIELDS {
         return abi::status(1, 0);
     }
-    abi::status(
-        frame_writer::write(frame_fields::record_of(values), frame),
-        0,
-    )
+    let written = frame_writer::write(frame_fields::record_of(values), frame);
+    abi::status(written, 0)
 }
 
 // Whether an area of a record is warned: 1 above the number where it is.
