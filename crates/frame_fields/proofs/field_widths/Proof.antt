@@ -2,6 +2,7 @@
 use Rattle.bits.specs.Segment.{freeWidths}
 use Rattle.frame.specs.Body.{row, layout}
 use Rattle.frame.specs.Fields.{scatter, fieldWidths}
+use mathlib.Core.Path.{ap, sym}
 use borrow.Author.Needs.{needs}
 use Rattle.frame_fields.proofs.field_widths.Statement.{statement}
 use Rattle.frame_fields.proofs.field_widths.Tie as tie
@@ -20,19 +21,19 @@ enum-told-4 c = search needs
 
 returns : tie.Need-returns
 unfolding row layout scatter fieldWidths freeWidths
-returns c = rw (c .enum-told .given .1)
+returns c = ap fieldWidths (sym (c .enum-told .given .1))
 
 returns-2 : tie.Need-returns-2
 unfolding row layout scatter fieldWidths freeWidths
-returns-2 c = rw (c .enum-told2 .given .1)
+returns-2 c = ap fieldWidths (sym (c .enum-told2 .given .1))
 
 returns-3 : tie.Need-returns-3
 unfolding row layout scatter fieldWidths freeWidths
-returns-3 c = rw (c .enum-told3 .given .1)
+returns-3 c = ap fieldWidths (sym (c .enum-told3 .given .1))
 
 returns-4 : tie.Need-returns-4
 unfolding row layout scatter fieldWidths freeWidths
-returns-4 c = rw (c .enum-told4 .given .1)
+returns-4 c = ap fieldWidths (sym (c .enum-told4 .given .1))
 
 pub field-widths-spec : {M : Type 1} → statement M
 field-widths-spec =

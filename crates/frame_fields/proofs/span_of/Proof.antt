@@ -1,6 +1,7 @@
 -- `frame_fields::span_of` meets its contract. Assumes nothing.
 use Rattle.frame.specs.Body.{row}
 use Rattle.frame_fields.specs.Table.{spanOf}
+use mathlib.Core.Path.{ap, sym}
 use borrow.Author.Needs.{needs}
 use Rattle.frame_fields.proofs.span_of.Statement.{statement}
 use Rattle.frame_fields.proofs.span_of.Tie as tie
@@ -19,19 +20,19 @@ enum-told-4 c = search needs
 
 returns : tie.Need-returns
 unfolding row spanOf
-returns c = rw (c .enum-told .given .1)
+returns c = ap spanOf (sym (c .enum-told .given .1))
 
 returns-2 : tie.Need-returns-2
 unfolding row spanOf
-returns-2 c = rw (c .enum-told2 .given .1)
+returns-2 c = ap spanOf (sym (c .enum-told2 .given .1))
 
 returns-3 : tie.Need-returns-3
 unfolding row spanOf
-returns-3 c = rw (c .enum-told3 .given .1)
+returns-3 c = ap spanOf (sym (c .enum-told3 .given .1))
 
 returns-4 : tie.Need-returns-4
 unfolding row spanOf
-returns-4 c = rw (c .enum-told4 .given .1)
+returns-4 c = ap spanOf (sym (c .enum-told4 .given .1))
 
 pub span-of-spec : {M : Type 1} → statement M
 span-of-spec =
