@@ -27,7 +27,7 @@ extern "C" {
 
 #define GVZ_VERSION_MAJOR 0
 #define GVZ_VERSION_MINOR 2
-#define GVZ_VERSION_PATCH 0
+#define GVZ_VERSION_PATCH 1
 #define GVZ_VERSION "0.2.1"
 
 /* ---- Refusals */

@@ -25,10 +25,10 @@ row CancelPage = time ∷ page ∷ total ∷ item ∷ number ∷ kind ∷ ones 4
 -- B24 to B55 all 1, B67 to B111 all 1
 row NoInformation = ones 32 ∷ broadcaster ∷ ones 45 ∷ []
 
--- the first bit of each entry of a row that begins with bit n
-abbrev pub firstBits : ℕ → List Entry → List ℕ
+-- each entry of a row that begins with bit n, and its first bit
+abbrev pub firstBits : ℕ → List Entry → List (Entry × ℕ)
 firstBits n [] = []
-firstBits n (e ∷ l) = n ∷ firstBits (n + width (segmentOf e)) l
+firstBits n (e ∷ l) = (e, n) ∷ firstBits (n + width (segmentOf e)) l
 
 -- its segments
 unfoldable pub layout : Body → List Segment

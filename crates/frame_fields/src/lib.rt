@@ -148,6 +148,7 @@ fn own_update(body: Body, update: u64) -> u64
 }
 
 // ---- the details, B24 to B111: the first 88 bits of a slice. More bytes after them let eight be read at once up to the last field.
+// That the 88 bits are there is required: the callers hand over the part from byte 3 on of 26 bytes.
 
 // The body's fields, each at its index, and 0 for every other.
 fn read_fields(body: Body, details: &[u8]) -> [u64; FIELDS]

@@ -27,6 +27,7 @@ fn turn_bytes(listed: u32) -> usize
 }
 
 // How many bytes are to be read after a piece of len bytes, with which `after` frames are listed: none where it is short, since the input has ended.
+// It requires that `after` is that number, which its caller has counted already.
 pub fn wanted_after(listed: u32, len: usize, after: u32) -> usize
     requires { ⌜ after ≡ listed + pieceCount len ⌝ }
     ensures { λ r. ⌜ r ≡ wantedAfter listed len ⌝ }

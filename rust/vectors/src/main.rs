@@ -1,4 +1,5 @@
-//! Writes what the test programs are run on and have to answer, `crates/NAME/stdin` and `stdout`, and the list of their cases, `cases.txt`.
+//! Writes what the test programs are run on and have to answer, `crates/NAME/stdin` and `stdout`, the list of their cases, `cases.txt`, and the output of the
+//! program that reads frames.
 use std::path::Path;
 
 fn main() -> std::io::Result<()> {
@@ -9,5 +10,8 @@ fn main() -> std::io::Result<()> {
         std::fs::write(folder.join("stdin"), files.stdin)?;
         std::fs::write(folder.join("stdout"), files.stdout)?;
     }
+    let reader = here.join("../../crates/read_frames");
+    let frames = std::fs::read(reader.join("stdin"))?;
+    std::fs::write(reader.join("stdout"), vectors::readings(&frames))?;
     std::fs::write(here.join("cases.txt"), vectors::list())
 }
