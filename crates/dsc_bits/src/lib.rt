@@ -22,7 +22,7 @@ fn frame_bit(f: &[u8], k: usize) -> bool
     requires { ⌜ (length (now f) ≡ 26) × (k < 208) ⌝ }
     ensures { λ r. ⌜ r ≡ at (bits (now (f .entry))) k ⌝ }
 {
-    bits::bit(f, k / 8, k % 8) == 1
+    bit_parts::bit(f, k / 8, k % 8) == 1
 }
 
 // The protected part, B17 to B203.

@@ -106,6 +106,6 @@ pub fn encode(frame: &mut [u8])
     let parity = dsc_encoder::parity(&word);
     let high = dsc_bits::number(&parity, 0, 41);
     let low = dsc_bits::number(&parity, 41, 41);
-    bits::put(frame, 122, 41, high);
-    bits::put(frame, 163, 41, low);
+    bit_fields::put(frame, 122, 41, high);
+    bit_fields::put(frame, 163, 41, low);
 }

@@ -22,9 +22,9 @@ pub fn received(f: &[u8]) -> Word
     requires { ⌜ length (now f) ≡ 26 ⌝ }
     ensures { λ r. ⌜ Fits r × (held r ≡ protected (now (f .entry))) ⌝ }
 {
-    let x = bits::eight(f, 18);
-    let y = bits::eight(f, 10);
-    let z = bits::eight(f, 2);
+    let x = bit_parts::eight(f, 18);
+    let y = bit_parts::eight(f, 10);
+    let z = bit_parts::eight(f, 2);
     Word {
         low: (x >> 4) | (y << 60),
         middle: (y >> 4) | (z << 60),

@@ -161,7 +161,7 @@ fn read_fields(body: Body, details: &[u8]) -> [u64; FIELDS]
     let before = span.before;
     let ws = field_widths(body);
     let mut v = [0; FIELDS];
-    bits::read_all(&details[before..], &ws[from..to], &mut v[from..to]);
+    bit_layouts::read_all(&details[before..], &ws[from..to], &mut v[from..to]);
     v
 }
 
@@ -172,11 +172,11 @@ fn ones_hold(body: Body, details: &[u8]) -> bool
 {
     let span = span_of(body);
     let before = 8 * span.before;
-    if !bits::segment_holds(1, before, bits::read_wide(details, 0, before)) {
+    if !bit_layouts::segment_holds(1, before, bit_fields::read_wide(details, 0, before)) {
         return false;
     }
     let after = span.after;
-    bits::segment_holds(1, after, bits::read_wide(details, 88 - after, after))
+    bit_layouts::segment_holds(1, after, bit_fields::read_wide(details, 88 - after, after))
 }
 
 // What the details of a body hold, with the fields that stand before them.
@@ -210,9 +210,9 @@ fn write_ones(body: Body, part: &mut [u8])
 {
     let span = span_of(body);
     let before = 8 * span.before;
-    bits::put(part, 0, before, bits::pow2(before) - 1);
+    bit_fields::put(part, 0, before, bit_parts::pow2(before) - 1);
     let after = span.after;
-    bits::put(part, 88 - after, after, bits::pow2(after) - 1);
+    bit_fields::put(part, 88 - after, after, bit_parts::pow2(after) - 1);
 }
 
 // The details of a record of that body, in the bytes from B24 on; the bits after them stay.
@@ -227,5 +227,5 @@ pub fn write_details(body: Body, contents: Record, part: &mut [u8])
     let before = span.before;
     let ws = field_widths(body);
     let v = fields_of(contents);
-    bits::write_all(&mut part[before..], &ws[from..to], &v[from..to]);
+    bit_layouts::write_all(&mut part[before..], &ws[from..to], &v[from..to]);
 }

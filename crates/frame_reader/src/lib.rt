@@ -31,11 +31,11 @@ fn front_refusal(frame: &[u8]) -> u8
     if frame.len() != 26 {
         return 1;
     }
-    let filler = bits::get(frame, 204, 4);
+    let filler = bit_fields::get(frame, 204, 4);
     if filler != 0 {
         return 2;
     }
-    let pattern = frame_kinds::pattern_of(bits::get(frame, 1, 16));
+    let pattern = frame_kinds::pattern_of(bit_fields::get(frame, 1, 16));
     if pattern == 2 {
         return 3;
     }
@@ -47,9 +47,9 @@ fn word_body(word: &[u8]) -> Body
     requires { ⌜ length (now word) ≡ 26 ⌝ }
     ensures { λ r. ⌜ r ≡ bodyIn (now (word .entry)) ⌝ }
 {
-    let class = frame_kinds::class_of(bits::get(word, 21, 3));
-    let page = bits::get(word, 55, 1);
-    let kind = bits::get(word, 67, 1);
+    let class = frame_kinds::class_of(bit_fields::get(word, 21, 3));
+    let page = bit_fields::get(word, 55, 1);
+    let kind = bit_fields::get(word, 67, 1);
     frame_kinds::body_of(class, page, kind)
 }
 
@@ -59,8 +59,8 @@ fn word_details(reference: u64, pattern: u64, word: &[u8]) -> Details
     ensures { λ r. ⌜ r ≡ wordDetails reference pattern (now (word .entry)) ⌝ }
 {
     let body = word_body(word);
-    let identification = bits::get(word, 21, 3);
-    let update = bits::get(word, 19, 2);
+    let identification = bit_fields::get(word, 21, 3);
+    let update = bit_fields::get(word, 19, 2);
     frame_fields::read_details(body, reference, pattern, identification, update, &word[3..])
 }
 
@@ -69,7 +69,7 @@ fn crc_differs(word: &[u8]) -> bool
     requires { ⌜ length (now word) ≡ 26 ⌝ }
     ensures { λ r. ⌜ r ≡ not (eqb (fieldAt (now (word .entry)) 112 10) (crc10Of (take 91 (drop 21 (bits (now (word .entry))))))) ⌝ }
 {
-    let stands = bits::get(word, 112, 10);
+    let stands = bit_fields::get(word, 112, 10);
     let crc = crc10::crc10(word, 21, 91);
     stands != crc as u64
 }
@@ -82,12 +82,12 @@ fn word_refusal(word: &[u8], details: Details) -> u8
     if crc_differs(word) {
         return 5;
     }
-    let class = frame_kinds::class_of(bits::get(word, 21, 3));
+    let class = frame_kinds::class_of(bit_fields::get(word, 21, 3));
     if frame_kinds::is_undefined(class) {
         return 6;
     }
-    let start = bits::get(word, 17, 2);
-    let update = bits::get(word, 19, 2);
+    let start = bit_fields::get(word, 17, 2);
+    let update = bit_fields::get(word, 19, 2);
     if frame_kinds::flags_wrong(class, start, update) {
         return 7;
     }
@@ -143,8 +143,8 @@ fn examine(frame: &[u8]) -> Examined
     let outcome = answer.outcome;
     match outcome {
         Outcome::Repaired(places) => {
-            let reference = bits::get(frame, 0, 1);
-            let pattern = frame_kinds::pattern_of(bits::get(frame, 1, 16));
+            let reference = bit_fields::get(frame, 0, 1);
+            let pattern = frame_kinds::pattern_of(bit_fields::get(frame, 1, 16));
             let word = answer.word;
             examine_word(reference, pattern, places, word)
         }
@@ -186,8 +186,8 @@ pub fn clean(frame: &[u8]) -> Cleaned
     match reading {
         Reading::Accepted(contents, _) => {
             let mut cleaned = examined.word;
-            bits::put(&mut cleaned, 0, 1, contents.reference);
-            bits::put(
+            bit_fields::put(&mut cleaned, 0, 1, contents.reference);
+            bit_fields::put(
                 &mut cleaned,
                 1,
                 16,

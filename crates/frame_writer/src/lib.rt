@@ -30,7 +30,7 @@ fn too_wide(contents: Record) -> bool
 {
     let ws = frame_fields::field_widths(record_body(contents));
     let vs = frame_fields::fields_of(contents);
-    !bits::fits_all(&ws, &vs)
+    !bit_layouts::fits_all(&ws, &vs)
 }
 
 // The refusal that a record itself is given, 0 where it is legal.
@@ -92,7 +92,7 @@ fn write_front(contents: Record, frame: &mut [u8])
 {
     let ws = [1, 16, 2, 2, 3];
     let vs = front_values(contents);
-    bits::write_all(frame, &ws, &vs);
+    bit_layouts::write_all(frame, &ws, &vs);
 }
 
 // The details, in the bytes from B24 on; the bits after them stay.
@@ -109,11 +109,11 @@ fn write_frame(contents: Record, frame: &mut [u8])
     requires { ⌜ length (now frame) ≡ 26 ⌝ }
     ensures { λ _. ⌜ now (frame .exit) ≡ frameOf contents ⌝ }
 {
-    bits::put(frame, 204, 4, 0);
+    bit_fields::put(frame, 204, 4, 0);
     write_front(contents, frame);
     write_details(contents, &mut frame[3..]);
     let crc = crc10::crc10(frame, 21, 91);
-    bits::put(frame, 112, 10, crc as u64);
+    bit_fields::put(frame, 112, 10, crc as u64);
     dsc_codec::encode(frame);
 }
 

@@ -14,7 +14,7 @@ fn ac_values(frame: &[u8; 26]) -> [u64; 26]
 {
     let widths = header_tables::ac_widths();
     let mut values = header_arrays::zeros26();
-    bits::read_all(frame, &widths, &mut values);
+    bit_layouts::read_all(frame, &widths, &mut values);
     values
 }
 
@@ -24,7 +24,7 @@ fn put_ac(part: &mut [u8], values: &[u64; 26])
     ensures { λ _. ⌜ now (part .exit) ≡ withFirst (pack acWidths (now (values .entry))) (now (part .entry)) ⌝ }
 {
     let widths = header_tables::ac_widths();
-    bits::write_all(part, &widths, values);
+    bit_layouts::write_all(part, &widths, values);
 }
 
 // The bits into a header, and the CRC.

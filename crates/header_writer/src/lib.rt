@@ -18,13 +18,13 @@ fn too_wide(header: Header) -> bool
 {
     let front = header_fields::front_fields(header.front);
     let front_widths = header_tables::front_free();
-    if !bits::fits_all(&front_widths, &front) {
+    if !bit_layouts::fits_all(&front_widths, &front) {
         return true;
     }
     let extension = header.extension;
     let ac = extension.ac;
     let ac_widths = header_tables::extension_free();
-    !bits::fits_all(&ac_widths, &ac)
+    !bit_layouts::fits_all(&ac_widths, &ac)
 }
 
 // A record's refusal, or 0 where it is legal.
@@ -76,7 +76,7 @@ pub fn seal(header: &mut [u8])
     ensures { λ _. ⌜ now (header .exit) ≡ sealed (take 184 (now (header .entry))) ⌝ }
 {
     let crc = crc32::crc32(&header[4..184]);
-    bits::put(header, 1472, 32, crc as u64);
+    bit_fields::put(header, 1472, 32, crc as u64);
 }
 
 // A legal header into a buffer of 188 bytes.

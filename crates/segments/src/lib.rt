@@ -47,9 +47,9 @@ pub fn read_fields(s: &[u8], kinds: &[u8], ws: &[usize], out: &mut [u64]) -> boo
     while j < ws.len() {
         let w = ws[j];
         let kind = kinds[j];
-        let v = bits::get(s, at, w);
+        let v = bit_fields::get(s, at, w);
         i = keep(kind, v, out, i);
-        fixed = both(fixed, bits::segment_holds(kind, w, v));
+        fixed = both(fixed, bit_layouts::segment_holds(kind, w, v));
         at += w;
         j += 1;
     }
@@ -65,7 +65,7 @@ fn segment_value(kind: u8, w: usize, vs: &[u64], i: usize) -> u64
         return vs[i];
     }
     if kind == 1 {
-        return bits::pow2(w) - 1;
+        return bit_parts::pow2(w) - 1;
     }
     0
 }
@@ -81,7 +81,7 @@ fn next_place(kind: u8, i: usize) -> usize
 }
 
 // The fields with these values, and the fixed bits among them, from the first bit on; the bits after them stay. A value too wide for its field loses its high
-// bits: `bits::fits_all` tells beforehand.
+// bits: `bit_layouts::fits_all` tells beforehand.
 pub fn write_fields(buf: &mut [u8], kinds: &[u8], ws: &[usize], vs: &[u64])
     requires { ⌜ Layout (now ws) (length (now buf)) × (length (now kinds) ≡ length (now ws)) × (length (now vs) ≡ length (freeWidths (segments (now kinds) (now ws)))) × (length (now vs) < 65536) ⌝ }
     ensures { λ _. ⌜ bits (now (buf .exit)) ≡ packSegments (segments (now (kinds .entry)) (now (ws .entry))) (now (vs .entry)) ++ drop (sum (now (ws .entry))) (bits (now (buf .entry))) ⌝ }
@@ -91,7 +91,7 @@ pub fn write_fields(buf: &mut [u8], kinds: &[u8], ws: &[usize], vs: &[u64])
     let mut j = 0;
     while j < ws.len() {
         let w = ws[j];
-        bits::put(buf, at, w, segment_value(kinds[j], w, vs, i));
+        bit_fields::put(buf, at, w, segment_value(kinds[j], w, vs, i));
         i = next_place(kinds[j], i);
         at += w;
         j += 1;

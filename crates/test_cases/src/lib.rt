@@ -102,9 +102,9 @@ fn case_of(operation: u8, numbers: &[u8], input: usize, lent: usize) -> Case
     Case {
         found: true,
         operation,
-        a: bits::get(numbers, 0, 64),
-        b: bits::get(numbers, 64, 64),
-        c: bits::get(numbers, 128, 64),
+        a: bit_fields::get(numbers, 0, 64),
+        b: bit_fields::get(numbers, 64, 64),
+        c: bit_fields::get(numbers, 128, 64),
         input,
         lent,
     }
@@ -148,8 +148,8 @@ pub fn next_case(n: u64, first: &mut [u8], second: &mut [u8]) -> Case
     if got != 5 {
         return wrong();
     }
-    let input = bits::get(&head, 8, 16) as usize;
-    let lent = bits::get(&head, 24, 16) as usize;
+    let input = bit_fields::get(&head, 8, 16) as usize;
+    let lent = bit_fields::get(&head, 24, 16) as usize;
     read_slices(head[0], input, lent, first, second)
 }
 
@@ -166,10 +166,10 @@ pub fn values(s: &[u8], out: &mut [u64]) -> usize
 {
     let mut at = 0;
     for i in 0..out.len() {
-        out[i] = bits::get(s, at, 64);
+        out[i] = bit_fields::get(s, at, 64);
         at = std::num::wrapping_add_usize(at, 64);
     }
-    bits::smaller(s.len() / 8, out.len())
+    bit_parts::smaller(s.len() / 8, out.len())
 }
 
 // The double with these bits. The language has one NaN and not its bits: which of three divisions or differences makes it goes by the sign and the highest bit of the fraction.

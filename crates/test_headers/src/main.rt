@@ -39,8 +39,8 @@ fn refusal(header: &[u8]) -> u64 {
 
 // Turns bit k over and, if asked, makes the CRC again.
 fn flip(header: &mut [u8], k: usize, again: u64) {
-    let bit = bits::get(header, k, 1);
-    bits::put(header, k, 1, bit ^ 1);
+    let bit = bit_fields::get(header, k, 1);
+    bit_fields::put(header, k, 1, bit ^ 1);
     if again == 1 {
         seal(header);
     }
