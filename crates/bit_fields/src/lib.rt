@@ -17,7 +17,7 @@ fn read_field(s: &[u8], at: usize, width: usize) -> u64
     let mut i = 0;
     while i < width {
         let k = off + i;
-        let n = bit_parts::smaller(8 - k % 8, width - i);
+        let n = numbers::smaller(8 - k % 8, width - i);
         let part = bit_parts::read_part(s, first + k / 8, k % 8, n);
         v = (v << n) + part;
         i += n;
@@ -42,7 +42,7 @@ pub fn read_wide(s: &[u8], at: usize, width: usize) -> u64
     if s.len() < first + 8 {
         return read_field(s, at, width);
     }
-    bit_parts::low_bits(bit_parts::eight(s, first) >> (64 - end), width)
+    numbers::low_bits(bit_parts::eight(s, first) >> (64 - end), width)
 }
 
 // The width bits from bit at on become the low bits of v.
@@ -55,7 +55,7 @@ pub fn write_field(s: &mut [u8], at: usize, width: usize, v: u64)
     let mut i = 0;
     while i < width {
         let k = off + i;
-        let n = bit_parts::smaller(8 - k % 8, width - i);
+        let n = numbers::smaller(8 - k % 8, width - i);
         bit_parts::write_part(s, first + k / 8, k % 8, n, v >> (width - i - n));
         i += n;
     }

@@ -49,7 +49,7 @@ fn fits(w: usize, v: u64) -> bool
     if 64 <= w {
         return true;
     }
-    v < bit_parts::pow2(w)
+    v < numbers::pow2(w)
 }
 
 // Whether there is a value for each field and each fits its field.
@@ -79,7 +79,7 @@ fn all_ones(w: usize, v: u64) -> bool
     if w == 64 {
         return v == 18446744073709551615;
     }
-    v == bit_parts::pow2(w) - 1
+    v == numbers::pow2(w) - 1
 }
 
 // A segment of the given kind and width holds v, if that is fixed.
@@ -100,7 +100,7 @@ pub fn segment_holds(kind: u8, w: usize, v: u64) -> bool
 pub fn fixed_hold(kinds: &[u8], ws: &[usize], vs: &[u64]) -> bool
     ensures { λ r. ⌜ r ≡ fixedHold (segments (now (kinds .entry)) (now (ws .entry))) (now (vs .entry)) ⌝ }
 {
-    if vs.len() != bit_parts::smaller(kinds.len(), ws.len()) {
+    if vs.len() != numbers::smaller(kinds.len(), ws.len()) {
         return false;
     }
     let mut j = 0;

@@ -1,18 +1,10 @@
 // Bits in a byte, most significant first, and bytes as numbers: what fields are read and written by.
 ghost use mathlib.Core.Path.{_≡_};
 ghost use mathlib.Core.Bool.{false};
-ghost use Prim.Native.Nat.{_+_, _*_, _%_, _^_, _<_, _≤_, min};
+ghost use Prim.Native.Nat.{_+_, _*_, _<_, _≤_};
 ghost use lib.ListN.{length, getD};
 ghost use Rattle.bits.specs.Bits.{digit, bits};
 ghost use Rattle.bits.specs.Field.{fieldAt, putBits};
-
-// 2 to the power k. It requires k below 64, since no larger power is a number of 64 bits.
-pub fn pow2(k: usize) -> u64
-    requires { ⌜ k < 64 ⌝ }
-    ensures { λ r. ⌜ r ≡ 2 ^ k ⌝ }
-{
-    1 << k
-}
 
 // Bit r of byte q, 0 or 1. It requires that there is such a bit, so that a loop over bits pays for no test.
 pub fn bit(s: &[u8], q: usize, r: usize) -> u64
@@ -22,31 +14,13 @@ pub fn bit(s: &[u8], q: usize, r: usize) -> u64
     (s[q] as u64 >> (7 - r)) & 1
 }
 
-// The n low bits of v.
-pub fn low_bits(v: u64, n: usize) -> u64
-    requires { ⌜ n < 64 ⌝ }
-    ensures { λ r. ⌜ r ≡ v % 2 ^ n ⌝ }
-{
-    v & (pow2(n) - 1)
-}
-
-// The smaller of two numbers.
-pub fn smaller(a: usize, b: usize) -> usize
-    ensures { λ r. ⌜ r ≡ min a b ⌝ }
-{
-    if a < b {
-        return a;
-    }
-    b
-}
-
 // The n bits from bit r of byte q on, as a number: the part of a field that lies in that byte.
 // It requires that they are there, so that a loop over the parts of a field pays for no test.
 pub fn read_part(s: &[u8], q: usize, r: usize, n: usize) -> u64
     requires { ⌜ (q < length (now s)) × (r + n ≤ 8) ⌝ }
     ensures { λ v. ⌜ v ≡ fieldAt (now (s .entry)) (8 * q + r) n ⌝ }
 {
-    low_bits(s[q] as u64 >> (8 - r - n), n)
+    numbers::low_bits(s[q] as u64 >> (8 - r - n), n)
 }
 
 // The n bits from bit r of byte q on become the low bits of v.
@@ -55,8 +29,8 @@ pub fn write_part(s: &mut [u8], q: usize, r: usize, n: usize, v: u64)
     ensures { λ _. ⌜ bits (now (s .exit)) ≡ putBits (now (s .entry)) (8 * q + r) n v ⌝ }
 {
     let old = read_part(s, q, r, n);
-    let new = low_bits(v, n);
-    let weight = pow2(8 - r - n);
+    let new = numbers::low_bits(v, n);
+    let weight = numbers::pow2(8 - r - n);
     s[q] = (s[q] as u64 - old * weight + new * weight) as u8;
 }
 

@@ -28,7 +28,7 @@ pub fn crc10(s: &[u8], at: usize, count: usize) -> u16
         if s.len() <= q {
             return r;
         }
-        let k = bit_parts::smaller(8 - o, left);
+        let k = numbers::smaller(8 - o, left);
         let part = bit_parts::read_part(s, q, o, k) as u16;
         r = feed10(r, part, k);
         q += (o + k) / 8;

@@ -210,9 +210,9 @@ fn write_ones(body: Body, part: &mut [u8])
 {
     let span = span_of(body);
     let before = 8 * span.before;
-    bit_fields::put(part, 0, before, bit_parts::pow2(before) - 1);
+    bit_fields::put(part, 0, before, numbers::pow2(before) - 1);
     let after = span.after;
-    bit_fields::put(part, 88 - after, after, bit_parts::pow2(after) - 1);
+    bit_fields::put(part, 88 - after, after, numbers::pow2(after) - 1);
 }
 
 // The details of a record of that body, in the bytes from B24 on; the bits after them stay.

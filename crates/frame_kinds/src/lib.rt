@@ -118,5 +118,5 @@ pub fn warned(message: Record, area: u64) -> bool
     if 55 < area {
         return false;
     }
-    message.areas / bit_parts::pow2(55 - area as usize) % 2 == 0
+    message.areas / numbers::pow2(55 - area as usize) % 2 == 0
 }

@@ -65,7 +65,7 @@ fn segment_value(kind: u8, w: usize, vs: &[u64], i: usize) -> u64
         return vs[i];
     }
     if kind == 1 {
-        return bit_parts::pow2(w) - 1;
+        return numbers::pow2(w) - 1;
     }
     0
 }

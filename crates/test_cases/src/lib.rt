@@ -169,7 +169,7 @@ pub fn values(s: &[u8], out: &mut [u64]) -> usize
         out[i] = bit_fields::get(s, at, 64);
         at = std::num::wrapping_add_usize(at, 64);
     }
-    bit_parts::smaller(s.len() / 8, out.len())
+    numbers::smaller(s.len() / 8, out.len())
 }
 
 // The double with these bits. The language has one NaN and not its bits: which of three divisions or differences makes it goes by the sign and the highest bit of the fraction.

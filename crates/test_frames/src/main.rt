@@ -12,7 +12,7 @@ fn put_doubles(s: &[f64; 4]) {
 // Lends so many of four doubles, and tells them all.
 fn report(fields: &[u64], before: f64, lent: usize) -> u64 {
     let mut place = [before; 4];
-    let n = bit_parts::smaller(lent, 4);
+    let n = numbers::smaller(lent, 4);
     let status = abi_place::report(fields, &mut place[0..n]) as u64;
     put_doubles(&place);
     status

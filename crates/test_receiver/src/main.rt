@@ -69,7 +69,7 @@ fn frame_at<'a>(main: &'a [u8], spare: &'a [u8], n: usize, lent: &mut [u8]) -> u
 }
 
 fn captures(operation: u8, length: usize, n: u64, input: &[u8], lent: &mut [u8]) -> u64 {
-    let cut = bit_parts::smaller(length, input.len());
+    let cut = numbers::smaller(length, input.len());
     let main = &input[0..cut];
     let spare = &input[cut..];
     match operation {

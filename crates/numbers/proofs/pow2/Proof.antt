@@ -3,8 +3,8 @@ use Prim.Native.Nat.{ℕ, _%_, _^_}
 use native.Mathlib.Nat.{one-mul, mod-eq-of-lt}
 use lib.Pow.{pow-lt}
 use borrow.Author.Needs.{needs}
-use Rattle.bit_parts.proofs.pow2.Statement.{statement}
-use Rattle.bit_parts.proofs.pow2.Tie as tie
+use Rattle.numbers.proofs.pow2.Statement.{statement}
+use Rattle.numbers.proofs.pow2.Tie as tie
 
 shl-result : tie.Need-shl-result
 shl-result c = search needs

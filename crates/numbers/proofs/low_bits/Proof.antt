@@ -4,8 +4,8 @@ use native.Mathlib.Omega.{arith}
 use lib.Bits.{bitAnd, and-mask}
 use lib.Pow.{pow-pos}
 use borrow.Author.Needs.{needs}
-use Rattle.bit_parts.proofs.low_bits.Statement.{statement}
-use Rattle.bit_parts.proofs.low_bits.Tie as tie
+use Rattle.numbers.proofs.low_bits.Statement.{statement}
+use Rattle.numbers.proofs.low_bits.Tie as tie
 
 pow2-requires : tie.Need-pow2-requires
 pow2-requires c κs = search needs
