@@ -29,7 +29,7 @@ returns-3 : tie.Need-returns-3
 returns-3 c = search needs
 
 eight-requires : tie.Need-eight-requires
-eight-requires c κs = search needs
+eight-requires c κs = omega arith
 
 sub-low-bits : tie.Need-sub-low-bits
 sub-low-bits c = search needs
