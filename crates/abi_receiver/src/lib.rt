@@ -68,7 +68,7 @@ fn step_status(step: Step) -> u32
 pub fn follow(state: u32, frame: &[u8]) -> u32
     ensures { λ r. ⌜ r ≡ followStatus state (now (frame .entry)) ⌝ }
 {
-    step_status(state_of(state).step(frame))
+    step_status(frame_follower::step(state_of(state), frame))
 }
 
 // The tuner that frame n is taken from.

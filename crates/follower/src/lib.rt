@@ -1,7 +1,7 @@
 // Following the update number: the old state goes in by value, the next one comes back with an event.
 ghost use mathlib.Core.Path.{_≡_};
 ghost use Rattle.follower.specs.declared.Follower.the-variants.{Quiet};
-ghost use Rattle.follower.specs.Follow.{warningEvent, seenIn, seenOf, stepSeen, stepOf};
+ghost use Rattle.follower.specs.Follow.{warningEvent, seenIn, seenOf, stepSeen};
 pub use follower_events::Event;
 pub use follower_events::Kind;
 use frame::Class;
@@ -55,8 +55,8 @@ fn seen_in(class: Class, message: Record) -> Seen
     }
 }
 
-// What a frame shows.
-fn seen_of(reading: Reading) -> Seen
+// What a frame shows, as it was read.
+pub fn seen_of(reading: Reading) -> Seen
     ensures { λ r. ⌜ r ≡ seenOf reading ⌝ }
 {
     match reading {
@@ -81,8 +81,8 @@ impl Follower {
         Follower::Quiet // whatever was held
     }
 
-    // What was seen, followed.
-    fn follow(self, seen: Seen) -> Step
+    // What was seen, followed: the state by value, and the next one out with the event.
+    pub fn follow(self, seen: Seen) -> Step
         ensures { λ r. ⌜ r ≡ stepSeen self seen ⌝ }
     {
         match seen {
@@ -105,12 +105,5 @@ impl Follower {
                 event: warning_event(self, kind, update),
             },
         }
-    }
-
-    // A frame followed, for any state and any bytes.
-    pub fn step(self, frame: &[u8]) -> Step
-        ensures { λ r. ⌜ r ≡ stepOf self (now (frame .entry)) ⌝ }
-    {
-        self.follow(seen_of(frame_reader::read(frame)))
     }
 }

@@ -45,7 +45,7 @@ fn event_number(event: Event) -> u64 {
 
 // The next state is told before the event.
 fn step(state: Follower, frame: &[u8]) -> u64 {
-    let step = state.step(frame);
+    let step = frame_follower::step(state, frame);
     let event = step.event;
     let next = step.next;
     put_state(next);

@@ -1,8 +1,9 @@
--- `follower::Follower::step` meets its contract. Assumes nothing.
+-- `frame_follower::step` meets its contract. Assumes nothing.
+use mathlib.Core.Path.{_∙_, ap}
 use borrow.Author.Needs.{needs}
-use Rattle.follower.specs.Follow.{stepOf}
-use Rattle.follower.proofs.Follower.step.Statement.{statement}
-use Rattle.follower.proofs.Follower.step.Tie as tie
+use Rattle.follower.specs.Follow.{seenOf, stepSeen, stepOf}
+use Rattle.frame_follower.proofs.step.Statement.{statement}
+use Rattle.frame_follower.proofs.step.Tie as tie
 
 read-requires : tie.Need-read-requires
 read-requires c κs = search needs
