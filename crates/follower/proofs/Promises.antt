@@ -1,5 +1,5 @@
 -- The promises hold. Assumes nothing.
-use mathlib.Core.Path.{_≡_, refl, sym, ap, _∙_}
+use mathlib.Core.Path.{_≡_, refl, sym, ap, ap₂, _∙_}
 use mathlib.Core.Bool.{Bool, true, false, true≢false, cond}
 use mathlib.Core.Logic.{_≢_, _⊎_, inl, inr}
 use mathlib.Core.List.{List, [], _∷_, _++_}
@@ -30,22 +30,26 @@ use Rattle.follower.specs.declared.Follower.{Follower}
 use Rattle.follower.specs.declared.Follower.the-variants.{Quiet, Active}
 use Rattle.follower.specs.declared.Step.{Step}
 use Rattle.follower_events.specs.Events.{kindOf, sameKind, changeOf}
-use Rattle.follower.specs.Follow.{warningEvent, silenceEvent, stepOf, eventNumber}
+use Rattle.follower.specs.Follow.{warningEvent, silenceEvent, stepSeen, seenIn, seenOf, stepOf, eventNumber}
 use Rattle.follower.specs.Promises.{Warns, Silences, SomeSilence, stateAfter, eventsOf, Following, Some, Worked}
 
 -- ---- a step, by what the frame is
 
 step-warned : (s : Follower) (f : List ℕ) (k : Kind) (u : ℕ) → Warns f k u → stepOf s f ≡ record { next = Active k u; event = warningEvent s k u }
 unfolding stepOf
-step-warned s f k u w = rw (w .read, w .class, w .kind, w .update)
+step-warned s f k u w =
+    ap (λ (r : Reading). stepSeen s (seenOf r)) (w .read)
+    ∙ ap (λ (c : Class). stepSeen s (seenIn c (w .message))) (w .class)
+    ∙ ap₂ (λ (j : Kind) (v : ℕ). record { next = Active j v; event = warningEvent s j v }) (w .kind) (w .update)
 
 step-silenced : (s : Follower) (f : List ℕ) → Silences f → stepOf s f ≡ record { next = Quiet; event = silenceEvent s }
 unfolding stepOf
-step-silenced s f w = rw (w .read, w .class)
+step-silenced s f w =
+    ap (λ (r : Reading). stepSeen s (seenOf r)) (w .read) ∙ ap (λ (c : Class). stepSeen s (seenIn c (w .message))) (w .class)
 
 step-refused : (s : Follower) (f : List ℕ) (n : ℕ) → readOf f ≡ Refused n → stepOf s f ≡ record { next = s; event = event.Refused n }
 unfolding stepOf
-step-refused s f n e = rw e
+step-refused s f n e = ap (λ (r : Reading). stepSeen s (seenOf r)) e
 
 event-warned : (s : Follower) (f : List ℕ) (k : Kind) (u : ℕ) → Warns f k u → stepOf s f .event ≡ warningEvent s k u
 event-warned s f k u w = ap (λ (t : Step). t .event) (step-warned s f k u w)
