@@ -53,6 +53,11 @@ run-taken v z k d n e f = e ∙ ap (run v k d) (ap length f ∙ length-replicate
 
 -- ---- values after each other
 
+-- the other laws cite this one
+pub placed-paste : (o : List ℕ) (k : ℕ) (s : List ℕ) → placed o k s ≡ paste o k s (length s)
+unfolding placed
+placed-paste o k s = refl
+
 pub paste-next : (o s : List ℕ) (k i : ℕ) → k + i < length o → i < length s → set (paste o k s i) (k + i) (getD s i 0) ≡ paste o k s (i + 1)
 paste-next o s k i ho hs = rw add-one (paste-suc o k s i 0 ho hs)
 
@@ -112,13 +117,12 @@ filled-one {p} {z} {v} {k} x f h =
 
 -- n values more
 pub filled-row : {p z v : List ℕ} {k : ℕ} (x w : List ℕ) (n : ℕ) → Filled p z v k → w ≡ placed v k x → length x ≡ n → Filled (p ++ x) z w (k + n)
-unfolding placed
 filled-row {p} {z} {v} {k} x w n f h o =
     let t : take n x ≡ x = take-all n x (omega arith) in
     let d : drop (k + n) (p ++ drop k z) ≡ drop (k + n) z =
     ap (λ (i : ℕ). drop (i + n) (p ++ drop k z)) (sym (f .long)) ∙ drop-append-add p (drop k z) n ∙ drop-drop n k z in
     record {
-      is = h ∙ ap₂ (λ (l : List ℕ) (i : ℕ). paste l k x i) (f .is) o ∙ rw (take-at p (drop k z) k (f .long), t, d);
+      is = h ∙ placed-paste v k x ∙ ap₂ (λ (l : List ℕ) (i : ℕ). paste l k x i) (f .is) o ∙ rw (take-at p (drop k z) k (f .long), t, d);
       long = length-append p x ∙ ap₂ (λ (i j : ℕ). i + j) (f .long) o;
     }
 

@@ -7,8 +7,7 @@ use denote.Ref.{now}
 use lib.ListN.{length, getD, set, length-set}
 use lib.Seq.{paste, paste-zero}
 use Rattle.header.specs.Fields.{pairs}
-use Rattle.header_arrays.specs.Placed.{placed}
-use Rattle.header_arrays.proofs.Copies.{pairs-turn, length-pairs}
+use Rattle.header_arrays.proofs.Copies.{placed-paste, pairs-turn, length-pairs}
 use Rattle.header_arrays.proofs.put_pairs.Statement.{statement}
 use Rattle.header_arrays.proofs.put_pairs.Tie as tie
 
@@ -83,12 +82,12 @@ same-length : tie.Need-same-length Inv-loop μ-loop
 same-length c = c .before .loop .inv .1
 
 returns : tie.Need-returns Inv-loop μ-loop
-unfolding placed
 returns c =
     let a = c .before .before .args in
     let l = c .before .loop in
     let e : l .i ≡ length (now (a .s)) = omega arith in
     l .inv .2 ∙ ap (paste (now (a .out)) (a .k) (pairs (now (a .s)) (now (a .t)))) (ap (2 *_) e ∙ sym (length-pairs (now (a .s)) (now (a .t))))
+    ∙ sym (placed-paste (now (a .out)) (a .k) (pairs (now (a .s)) (now (a .t))))
 
 pub put-pairs-spec : {M : Type 1} → statement M
 put-pairs-spec =

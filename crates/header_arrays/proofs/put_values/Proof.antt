@@ -1,13 +1,12 @@
 -- `header_arrays::put_values` meets its contract. Assumes nothing.
-use mathlib.Core.Path.{_≡_, _∙_, ap, refl}
+use mathlib.Core.Path.{_≡_, _∙_, ap, refl, sym}
 use mathlib.Core.List.{List}
 use Prim.Native.Nat.{ℕ, _+_, _-_, _≤_}
 use native.Mathlib.Omega.{arith}
 use denote.Ref.{now}
 use lib.ListN.{length, getD, set, length-set}
 use lib.Seq.{paste, paste-zero}
-use Rattle.header_arrays.specs.Placed.{placed}
-use Rattle.header_arrays.proofs.Copies.{paste-next}
+use Rattle.header_arrays.proofs.Copies.{placed-paste, paste-next}
 use Rattle.header_arrays.proofs.put_values.Statement.{statement}
 use Rattle.header_arrays.proofs.put_values.Tie as tie
 
@@ -57,12 +56,11 @@ same-length : tie.Need-same-length Inv-loop μ-loop
 same-length c = c .before .loop .inv .1
 
 returns : tie.Need-returns Inv-loop μ-loop
-unfolding placed
 returns c =
     let a = c .before .before .args in
     let l = c .before .loop in
     let e : l .i ≡ length (now (a .s)) = omega arith in
-    l .inv .2 ∙ ap (paste (now (a .out)) (a .k) (now (a .s))) e
+    l .inv .2 ∙ ap (paste (now (a .out)) (a .k) (now (a .s))) e ∙ sym (placed-paste (now (a .out)) (a .k) (now (a .s)))
 
 pub put-values-spec : {M : Type 1} → statement M
 put-values-spec =
