@@ -8,9 +8,11 @@ use lib.ListN.{length, take, drop, replicate, length-append, length-drop, take-a
 use lib.Seq.{length-take-le, take-at, take-add, drop-append-le}
 use Rattle.bits.specs.Bits.{odd, value, bitsOf, bits, bytes, Bytes}
 use Rattle.bits.specs.Layout.{pack, unpack, sum, Layout}
+use Rattle.bits.specs.Segment.{freeWidths}
 use Rattle.bits.proofs.Bits.{length-bytes, length-bits, bits-take, bitsOf-value}
 use Rattle.bits.proofs.Layouts.{length-pack, layoutb-layout}
 use Rattle.header.specs.Header.{sealed}
+use Rattle.header.specs.Layout.{extensionLayout}
 use Rattle.header_laying.specs.Laying.{withAc}
 use Rattle.header.proofs.Parts.{written-part}
 use Rattle.header_tables.specs.AcTables.{acWidths, acOnes}
@@ -19,19 +21,19 @@ use Rattle.header_inserter.specs.AcBits.{withFirst}
 -- ---- the widths
 
 pub ac-sum : sum acWidths ≡ 204
-unfolding acWidths sum
+unfolding extensionLayout freeWidths sum
 ac-sum = refl
 
 layout-26 : Layout acWidths 26
-unfolding acWidths sum
+unfolding extensionLayout freeWidths sum
 layout-26 = layoutb-layout acWidths 26 refl
 
 layout-89 : Layout acWidths 89
-unfolding acWidths sum
+unfolding extensionLayout freeWidths sum
 layout-89 = layoutb-layout acWidths 89 refl
 
 ac-count : length acWidths ≡ 26
-unfolding acWidths
+unfolding extensionLayout freeWidths
 ac-count = refl
 
 -- a frame and the part that starts at byte 99 have room for them
@@ -45,7 +47,7 @@ pub part-room : (ws : List ℕ) (k m : ℕ) → ws ≡ acWidths → k ≡ 89 →
 part-room = room 89 layout-89
 
 pub all-ones : pack acWidths acOnes ≡ replicate 204 true
-unfolding acWidths acOnes pack bitsOf odd
+unfolding extensionLayout freeWidths acOnes pack bitsOf odd
 all-ones = refl
 
 -- ---- values read and packed again are the first bits

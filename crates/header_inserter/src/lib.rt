@@ -12,7 +12,7 @@ ghost use Rattle.header_inserter.specs.AcBits.{withFirst};
 fn ac_values(frame: &[u8; 26]) -> [u64; 26]
     ensures { λ r. ⌜ r ≡ unpack acWidths (bits (now (frame .entry))) ⌝ }
 {
-    let widths = header_tables::ac_widths();
+    let widths = header_tables::extension_free();
     let mut values = header_arrays::zeros26();
     bit_layouts::read_all(frame, &widths, &mut values);
     values
@@ -23,7 +23,7 @@ fn put_ac(part: &mut [u8], values: &[u64; 26])
     requires { ⌜ length (now part) ≡ 89 ⌝ }
     ensures { λ _. ⌜ now (part .exit) ≡ withFirst (pack acWidths (now (values .entry))) (now (part .entry)) ⌝ }
 {
-    let widths = header_tables::ac_widths();
+    let widths = header_tables::extension_free();
     bit_layouts::write_all(part, &widths, values);
 }
 

@@ -6,7 +6,7 @@ use native.Mathlib.Omega.{arith}
 use lib.ListN.{length, getD, take, replicate, take-append-drop, drop-of-length-le}
 use lib.Seq.{drop-cons}
 
--- 25 values that are one and a last one, as the tables of the AC bits have them
+-- 25 values that are one and a last one, as the AC bits are tabled
 pub listed : (x y : ℕ) (v : List ℕ) → length v ≡ 26 → take 25 v ≡ replicate 25 x → getD v 25 0 ≡ y → v ≡ replicate 25 x ++ y ∷ []
 listed x y v l e q =
     sym (take-append-drop 25 v)

@@ -2,9 +2,12 @@
 use mathlib.Core.List.{List, [], _∷_, _++_}
 use Prim.Native.Nat.{ℕ}
 use lib.ListN.{replicate}
+use Rattle.bits.specs.Segment.{freeWidths}
+use Rattle.header.specs.Layout.{extensionLayout}
 
-unfoldable pub acWidths : List ℕ
-acWidths = replicate 25 8 ++ 4 ∷ []
+-- the fields of the extension
+abbrev pub acWidths : List ℕ
+acWidths = freeWidths extensionLayout
 
 -- all of them 1
 unfoldable pub acOnes : List ℕ

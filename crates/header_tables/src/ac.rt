@@ -1,42 +1,8 @@
-// The 204 AC bits of a header's extension as tables.
+// The 204 AC bits of a header's extension as a table.
 ghost use mathlib.Core.Path.{_≡_};
-ghost use Rattle.header_tables.specs.AcTables.{acWidths, acOnes};
+ghost use Rattle.header_tables.specs.AcTables.{acOnes};
 
-// The 204 AC bits are 25 bytes and then 4 bits.
-pub fn ac_widths() -> [usize; 26]
-    ensures { λ r. ⌜ r ≡ acWidths ⌝ }
-{
-    [
-        8,
-        8,
-        8,
-        8,
-        8,
-        8,
-        8,
-        8,
-        8,
-        8,
-        8,
-        8,
-        8,
-        8,
-        8,
-        8,
-        8,
-        8,
-        8,
-        8,
-        8,
-        8,
-        8,
-        8,
-        8,
-        4,
-    ]
-}
-
-// All of them 1.
+// All of them 1, as the extension's fields have them.
 pub fn ac_ones() -> [u64; 26]
     ensures { λ r. ⌜ r ≡ acOnes ⌝ }
 {

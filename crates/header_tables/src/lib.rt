@@ -6,7 +6,6 @@ ghost use Rattle.bits.specs.Segment.{widths, freeWidths};
 ghost use Rattle.header.specs.Layout.{frontLayout, extensionLayout};
 ghost use Rattle.header_tables.specs.Kinds.{kindsOf};
 pub use ac::ac_ones;
-pub use ac::ac_widths;
 
 // The front, 120 segments: the one after the validity of stream 15 is fixed.
 pub fn front_kinds() -> [u8; 120]
@@ -33,7 +32,7 @@ pub fn front_kinds() -> [u8; 120]
         0,
         0,
         0,
-        1,
+        1, // the undefined bit of the slot information
         0,
         0,
         0,
@@ -141,14 +140,12 @@ pub fn front_widths() -> [usize; 120]
     ensures { λ r. ⌜ r ≡ widths frontLayout ⌝ }
 {
     [
-        32,
-        16,
-        3,
-        1,
-        4,
-        1,
-        1,
-        1,
+        32, // packet header
+        16, // multiplex frame sync
+        3, // change number
+        1, // method
+        4, // multiplex form
+        1, // validity of streams 1 to 15
         1,
         1,
         1,
@@ -162,6 +159,9 @@ pub fn front_widths() -> [usize; 120]
         1,
         1,
         1,
+        1,
+        1, // undefined, fixed
+        16, // stream id and network id of streams 1 to 15
         16,
         16,
         16,
@@ -191,7 +191,7 @@ pub fn front_widths() -> [usize; 120]
         16,
         16,
         16,
-        16,
+        2, // reception states of streams 1 to 15
         2,
         2,
         2,
@@ -206,10 +206,9 @@ pub fn front_widths() -> [usize; 120]
         2,
         2,
         2,
-        2,
-        1,
-        1,
-        4,
+        1, // undefined, carried
+        1, // emergency start
+        4, // slots 2 to 53
         4,
         4,
         4,
@@ -295,7 +294,7 @@ pub fn extension_kinds() -> [u8; 86]
         0,
         0,
         0,
-        1,
+        1, // the first bits that are fixed
         1,
         1,
         1,
@@ -388,8 +387,8 @@ pub fn extension_widths() -> [usize; 86]
         8,
         8,
         8,
-        4,
-        4,
+        4, // the last AC bits
+        4, // the rest of their byte
         8,
         8,
         8,
@@ -575,7 +574,7 @@ pub fn front_free() -> [usize; 119]
         4,
         4,
         4,
-        4,
+        4, // slot 53
     ]
 }
 
@@ -609,6 +608,6 @@ pub fn extension_free() -> [usize; 26]
         8,
         8,
         8,
-        4,
+        4, // 25 bytes and 4 bits are the 204 AC bits
     ]
 }

@@ -7,8 +7,8 @@ use Rattle.header_inserter.proofs.AcValues.{part-room, part-written}
 use Rattle.header_inserter.proofs.put_ac.Statement.{statement}
 use Rattle.header_inserter.proofs.put_ac.Tie as tie
 
-ac-widths-requires : tie.Need-ac-widths-requires
-ac-widths-requires c κs = search needs
+extension-free-requires : tie.Need-extension-free-requires
+extension-free-requires c κs = search needs
 
 slice-aggregate-write-all : tie.Need-slice-aggregate-write-all
 slice-aggregate-write-all c = search needs
@@ -17,7 +17,7 @@ write-all-requires : tie.Need-write-all-requires
 write-all-requires c κs =
     let start = c .before .before .before .before .before in
     let count : length (now (start .args .values)) ≡ 26 = search needs in
-    part-room _ _ _ (c .before .before .before .ac-widths .ensures) (start .pre) count
+    part-room _ _ _ (c .before .before .before .extension-free .ensures) (start .pre) count
 
 same-length : tie.Need-same-length
 same-length c = search needs
@@ -26,10 +26,10 @@ returns : tie.Need-returns
 returns c =
     let b = c .before .before .before .before .before .before .before .before in
     let write = c .before .before .write-all in
-    part-written _ _ (now (b .args .part)) (write .last .0) (c .before .before .before .before .before .before .ac-widths .ensures) (b .pre) (write .kept .0)
+    part-written _ _ (now (b .args .part)) (write .last .0) (c .before .before .before .before .before .before .extension-free .ensures) (b .pre) (write .kept .0)
     (λ i. c .before .before .before .before .before .before .before .slice-known .given i .fits) (λ i. c .slice-known2 .given i .fits) (write .ensures)
 
 pub put-ac-spec : {M : Type 1} → statement M
 put-ac-spec =
     tie.close
-    (tie.spec ac-widths-requires slice-aggregate-write-all write-all-requires same-length returns)
+    (tie.spec extension-free-requires slice-aggregate-write-all write-all-requires same-length returns)
