@@ -125,7 +125,7 @@ crc10-add u w l = crc-add g10 (zeros 10) length-zeros10 some10 u w l ∙ ap (add
 -- ---- CRC-32
 
 pub length-g32 : length g32 ≡ 32
-length-g32 = length-bitsOf 32 0x04C11DB7
+length-g32 = length-bitsOf 32 _
 
 length-ones32 : length ones32 ≡ length g32
 length-ones32 = length-bitsOf 32 0xFFFFFFFF ∙ sym length-g32

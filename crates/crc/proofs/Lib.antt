@@ -1,3 +1,4 @@
+pub mod Computed
 pub mod Table
 pub mod Turn
 pub mod Crc

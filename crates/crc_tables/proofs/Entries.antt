@@ -7,10 +7,9 @@ use native.Mathlib.Nat.{lt-of-lt-of-le}
 use native.Mathlib.Omega.{arith}
 use lib.ListN.{length, getD}
 use lib.Pow.{pow-mono}
-use Rattle.bits.proofs.Bits.{length-bitsOf}
 use Rattle.crc.specs.Crc.{g10, g32}
 use Rattle.crc.specs.Remainders.{remainderOf}
-use Rattle.crc.proofs.Crc.{length-g10}
+use Rattle.crc.proofs.Crc.{length-g10, length-g32}
 use Rattle.crc.proofs.Table.{remainder-lt, remainder-xor, remainder-zero, sums, powers, length-sums, getD-sums}
 
 -- what remains of each byte by the generator g, n bytes before the last one
@@ -33,4 +32,4 @@ pub narrow10 : length g10 ≤ 32
 narrow10 = omega (arith, length-g10)
 
 pub narrow32 : length g32 ≤ 32
-narrow32 = omega (arith, length-bitsOf 32 0x04C11DB7)
+narrow32 = omega (arith, length-g32)
