@@ -1,5 +1,5 @@
 -- The promises hold. Assumes nothing.
-use mathlib.Core.Path.{_≡_, refl, sym, ap, _∙_}
+use mathlib.Core.Path.{_≡_, refl, sym, ap, ap₂, _∙_}
 use mathlib.Core.List.{List, [], _∷_, _++_, append-assoc, append-nil}
 use Prim.Native.Nat.{ℕ, zero, suc, _+_, _*_, min}
 use native.Mathlib.Omega.{arith}
@@ -66,9 +66,14 @@ stops s t h = stops-at 999999 s t h
 
 -- ---- the example
 
+-- frame 1, accepted as it was received
+first-line : lineOf 1 (record { number = 0; repaired = 0 }) ≡ 49 ∷ 32 ∷ 48 ∷ 32 ∷ 48 ∷ 10 ∷ []
+unfolding lineOf digits
+first-line = refl
+
 accepted-line : (f : List ℕ) → frameRefusal f ≡ 0 → placesIn f ≡ 0 → lineOf 1 (judgeOf f) ≡ 49 ∷ 32 ∷ 48 ∷ 32 ∷ 48 ∷ 10 ∷ []
-unfolding judgeOf lineOf digits
-accepted-line f a b = rw (a, b)
+unfolding judgeOf
+accepted-line f a b = ap₂ (λ (n m : ℕ). lineOf 1 (record { number = n; repaired = m })) a b ∙ first-line
 
 -- a short piece
 short-line : (x : List ℕ) → length x ≡ 5 → lineOf 2 (judgeOf x) ≡ 50 ∷ 32 ∷ 49 ∷ 32 ∷ 45 ∷ 10 ∷ []
