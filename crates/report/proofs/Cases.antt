@@ -1,8 +1,9 @@
 -- The cases of a report. Assumes nothing.
-use mathlib.Core.Path.{_≡_, _∙_, sym, ap}
+use mathlib.Core.Path.{_≡_, _∙_, sym, ap, ap₂}
 use mathlib.Core.Bool.{Bool, cond}
 use mathlib.Core.Logic.{_≢_}
 use Prim.Native.Nat.{ℕ}
+use lib.Ieee.{Float}
 use borrow.Author.Tests.{eq-eqb, ne-eqb}
 use Rattle.frame.specs.Identification.{classOf}
 use Rattle.frame.specs.Body.{bodyOf}
@@ -10,10 +11,20 @@ use Rattle.frame.specs.Fields.{recordBody}
 use Rattle.frame.specs.Write.{Legal, recordRefusal}
 use Rattle.frame.specs.declared.Class.{Class}
 use Rattle.frame.specs.declared.Body.{Body}
+use Rattle.frame.specs.declared.Body.the-variants.{PlacePage}
 use Rattle.frame.specs.declared.Record.{Record}
+use Rattle.place.specs.Degrees.{degreesOf, kilometresOf}
 use Rattle.report.specs.declared.Reported.{Reported}
-use Rattle.report.specs.declared.Reported.the-variants.{Refused}
+use Rattle.report.specs.declared.Reported.the-variants.{Place, Refused}
 use Rattle.report.specs.Report.{reportedBy, reportOf}
+
+-- what a body reports, as the function comes to it
+pub by-body : (r : Record) {b : Body} (d : Body) → b ≡ d → reportedBy d r ≡ reportedBy b r
+by-body r d e = ap (λ (x : Body). reportedBy x r) (sym e)
+
+pub by-place : (r : Record) {b : Body} {n m k : Float} → b ≡ PlacePage → n ≡ degreesOf (r .south) (r .latitude) → m ≡ degreesOf (r .west) (r .longitude)
+    → k ≡ kilometresOf (r .depth) → Place n m k ≡ reportedBy b r
+by-place r {m = m} {k = k} e p q o = ap (λ (x : Float). Place x m k) p ∙ ap₂ (Place (degreesOf (r .south) (r .latitude))) q o ∙ by-body r PlacePage e
 
 -- a legal record reports by its body
 pub legal : (r : Record) → Legal r → reportOf r ≡ reportedBy (recordBody r) r

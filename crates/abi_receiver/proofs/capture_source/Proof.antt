@@ -1,6 +1,7 @@
 -- `abi_receiver::capture_source` meets its contract. Assumes nothing.
-use mathlib.Core.Path.{sym}
 use borrow.Author.Needs.{needs}
+use Rattle.capture.specs.declared.Tuner.the-variants.{Neither, Main, Spare}
+use Rattle.abi_receiver.proofs.Numbers.{tuner-told}
 use Rattle.abi_receiver.proofs.capture_source.Statement.{statement}
 use Rattle.abi_receiver.proofs.capture_source.Tie as tie
 
@@ -17,13 +18,13 @@ enum-told-3 : tie.Need-enum-told-3
 enum-told-3 c = search needs
 
 returns : tie.Need-returns
-returns c = simp (sym (c .before .before .source .ensures), c .enum-told .given .1)
+returns c = tuner-told Neither (c .before .before .source .ensures) (c .enum-told .given .1)
 
 returns-2 : tie.Need-returns-2
-returns-2 c = simp (sym (c .before .before .source .ensures), c .enum-told2 .given .1)
+returns-2 c = tuner-told Main (c .before .before .source .ensures) (c .enum-told2 .given .1)
 
 returns-3 : tie.Need-returns-3
-returns-3 c = simp (sym (c .before .before .source .ensures), c .enum-told3 .given .1)
+returns-3 c = tuner-told Spare (c .before .before .source .ensures) (c .enum-told3 .given .1)
 
 pub capture-source-spec : {M : Type 1} → statement M
 capture-source-spec =

@@ -1,7 +1,8 @@
 -- `abi_receiver::event_status` meets its contract. Assumes nothing.
-use mathlib.Core.Path.{_∙_}
 use native.Mathlib.Omega.{arith}
 use borrow.Author.Needs.{needs}
+use Rattle.follower_events.specs.declared.Event.the-variants.{Quiet, Ended, Begins, Same, Changed, Skipped, Refused}
+use Rattle.abi_receiver.proofs.Numbers.{event-told}
 use Rattle.abi_receiver.proofs.event_status.Statement.{statement}
 use Rattle.abi_receiver.proofs.event_status.Tie as tie
 
@@ -48,25 +49,25 @@ status-requires-7 : tie.Need-status-requires-7
 status-requires-7 c κs = search needs
 
 returns : tie.Need-returns
-returns c = (c .status .ensures ∙ simp (c .before .enum-told .given .1), omega (arith, c .status .ensures))
+returns c = (event-told Quiet (c .before .enum-told .given .1) (c .status .ensures), omega (arith, c .status .ensures))
 
 returns-2 : tie.Need-returns-2
-returns-2 c = (c .status2 .ensures ∙ simp (c .before .enum-told2 .given .1), omega (arith, c .status2 .ensures))
+returns-2 c = (event-told Ended (c .before .enum-told2 .given .1) (c .status2 .ensures), omega (arith, c .status2 .ensures))
 
 returns-3 : tie.Need-returns-3
-returns-3 c = (c .status3 .ensures ∙ simp (c .before .enum-told3 .given .1), omega (arith, c .status3 .ensures))
+returns-3 c = (event-told Begins (c .before .enum-told3 .given .1) (c .status3 .ensures), omega (arith, c .status3 .ensures))
 
 returns-4 : tie.Need-returns-4
-returns-4 c = (c .status4 .ensures ∙ simp (c .before .enum-told4 .given .1), omega (arith, c .status4 .ensures))
+returns-4 c = (event-told Same (c .before .enum-told4 .given .1) (c .status4 .ensures), omega (arith, c .status4 .ensures))
 
 returns-5 : tie.Need-returns-5
-returns-5 c = (c .status5 .ensures ∙ simp (c .before .enum-told5 .given .1), omega (arith, c .status5 .ensures))
+returns-5 c = (event-told Changed (c .before .enum-told5 .given .1) (c .status5 .ensures), omega (arith, c .status5 .ensures))
 
 returns-6 : tie.Need-returns-6
-returns-6 c = (c .status6 .ensures ∙ simp (c .before .enum-told6 .given .1), omega (arith, c .status6 .ensures))
+returns-6 c = (event-told Skipped (c .before .enum-told6 .given .1) (c .status6 .ensures), omega (arith, c .status6 .ensures))
 
 returns-7 : tie.Need-returns-7
-returns-7 c = (c .status7 .ensures ∙ simp (c .before .before .event .given .1), omega (arith, c .status7 .ensures))
+returns-7 c = (event-told (Refused _) (c .before .before .event .given .1) (c .status7 .ensures), omega (arith, c .status7 .ensures))
 
 pub event-status-spec : {M : Type 1} → statement M
 event-status-spec =

@@ -1,5 +1,7 @@
 -- `abi_receiver::state_number` meets its contract. Assumes nothing.
 use borrow.Author.Needs.{needs}
+use Rattle.follower_events.specs.declared.Kind.the-variants.{Real, Test}
+use Rattle.abi_receiver.proofs.Numbers.{active-told}
 use Rattle.abi_receiver.proofs.state_number.Statement.{statement}
 use Rattle.abi_receiver.proofs.state_number.Tie as tie
 
@@ -28,10 +30,10 @@ returns : tie.Need-returns
 returns c = search needs
 
 returns-2 : tie.Need-returns-2
-returns-2 c = simp (c .before .before .before .state .given .1, c .enum-told2 .given .1)
+returns-2 c = active-told Real (c .before .before .before .state .given .1) (c .enum-told2 .given .1)
 
 returns-3 : tie.Need-returns-3
-returns-3 c = simp (c .before .before .before .state .given .1, c .enum-told3 .given .1)
+returns-3 c = active-told Test (c .before .before .before .state .given .1) (c .enum-told3 .given .1)
 
 pub state-number-spec : {M : Type 1} → statement M
 state-number-spec =
