@@ -3,21 +3,22 @@ use mathlib.Core.Path.{_≡_, refl, sym, ap, _∙_, subst}
 use mathlib.Core.Bool.{Bool, true, false, cond, and-eq-true-iff, _&&_}
 use mathlib.Core.Logic.{_≢_}
 use mathlib.Core.List.{List, [], _∷_}
-use Prim.Native.Nat.{ℕ, zero, suc, _-_, _^_, _<_}
+use Prim.Native.Nat.{ℕ, zero, suc, _+_, _-_, _*_, _^_, _≤_, _<_}
 use native.Mathlib.Omega.{arith}
-use lib.Dec.{eqb}
+use lib.Dec.{eqb, leb, ltb}
 use lib.ListN.{length, getD, take, drop, replicate}
 use lib.Seq.{drop-drop}
-use borrow.Author.Tests.{eqb-true, eqb-false, ne-eqb, not-false}
+use borrow.Author.Tests.{eqb-true, eqb-false, ne-eqb, ltb-true, leb-true, not-false}
 use Rattle.bits.specs.Bits.{value}
-use Rattle.bits.specs.Layout.{unpack, sum, Fit, fitb}
+use Rattle.bits.specs.Layout.{unpack, sum, Fit, fitb, Layout, layoutb}
 use Rattle.bits.specs.Segment.{widths, freeWidths, free, withFixed, packSegments, unpackSegments}
-use Rattle.bits.proofs.Layouts.{unpack-pack, length-fit, fitb-fit, fit-fitb}
+use Rattle.bits.proofs.Layouts.{unpack-pack, length-fit, fitb-fit, fit-fitb, layoutb-layout}
 use Rattle.bits.proofs.Segment.{fit-withFixed}
 use Rattle.bits.proofs.Refusal.{refusal-none, none-refusal}
 use Rattle.frame.specs.Identification.{classOf, updateOf, isUndefined}
 use Rattle.frame.specs.Entry.{Entry, held, ones, segmentsOf, indicesOf}
 use Rattle.frame.specs.Body.{bodyOf, row, layout, indices, ownUpdate}
+use Rattle.frame.specs.Span.{spanOf, between}
 use Rattle.frame.specs.Fields.{fieldCount, fields, recordFrom, gather, scatter, beforeDetails, inFields, fieldWidths, bodyValues, recordBody, tooWide, overLimit, recordOf}
 use Rattle.frame.specs.Write.{recordRefusal, Legal}
 use Rattle.frame.specs.declared.Class.{Class}
@@ -86,27 +87,76 @@ pub length-free : (b : Body) → length (freeWidths (layout b)) ≡ length (indi
 unfolding layout
 length-free b = indices-fields (row b)
 
--- what is to be seen of a row: it has 88 bits, and its indices lie in the record, after the fields that stand before the details, no two of them one
-rightRow : List Entry → Bool
-rightRow l = eqb (sum (widths (segmentsOf l))) 88 && apart fieldCount (0 ∷ 1 ∷ 2 ∷ 3 ∷ indicesOf l)
+-- some tests are all true
+allTrue : List Bool → Bool
+allTrue [] = true
+allTrue (t ∷ ts) = t && allTrue ts
 
-right-row : (b : Body) → rightRow (row b) ≡ true
-unfolding row widths sum rightRow
+EachTrue : List Bool → Type 0
+EachTrue [] = Unit {0}
+EachTrue (t ∷ ts) = (t ≡ true) × EachTrue ts
+
+each-true : (ts : List Bool) → allTrue ts ≡ true → EachTrue ts
+unfolding allTrue EachTrue
+each-true [] e = tt
+each-true (t ∷ ts) e = let h = and-eq-true-iff t (allTrue ts) .0 e in (h .0, each-true ts (h .1))
+
+-- what is to be seen of a body. Of its row: it has 88 bits, and its indices lie in the record, after the fields that stand before the details, no
+-- two of them one. Of its span: the widths find room after the bytes before them, with the bits before and after them they are all 88, and its
+-- fields are of the record.
+rightRow : Body → List Bool
+rightRow b =
+    let s = spanOf b in
+    let ws = between (s .from) (s .to) (fieldWidths b) in
+    eqb (sum (widths (layout b))) 88
+    ∷ apart fieldCount (0 ∷ 1 ∷ 2 ∷ 3 ∷ indices b)
+    ∷ layoutb ws (11 - s .before)
+    ∷ eqb (8 * s .before + sum ws + s .after) 88
+    ∷ ltb (s .after) 64
+    ∷ leb (s .before) 7
+    ∷ leb (s .from) (s .to)
+    ∷ leb (s .to) fieldCount
+    ∷ []
+
+right-row : (b : Body) → allTrue (rightRow b) ≡ true
+unfolding row layout widths sum scatter fieldWidths freeWidths spanOf rightRow allTrue
 right-row AreaPage = refl
 right-row PlacePage = refl
 right-row CancelPage = refl
 right-row NoInformation = refl
 
-pub layout-sum : (b : Body) → sum (widths (layout b)) ≡ 88
-unfolding layout rightRow
-layout-sum b =
-    let n = sum (widths (segmentsOf (row b))) in
-    eqb-true n 88 (and-eq-true-iff (eqb n 88) (apart fieldCount (0 ∷ 1 ∷ 2 ∷ 3 ∷ indicesOf (row b))) .0 (right-row b) .0)
+-- the same as facts
+pub record Right (b : Body) : Type 0 where
+  pub whole : sum (widths (layout b)) ≡ 88
+  pub separate : apart fieldCount (0 ∷ 1 ∷ 2 ∷ 3 ∷ indices b) ≡ true
+  pub room : Layout (between (spanOf b .from) (spanOf b .to) (fieldWidths b)) (11 - spanOf b .before)
+  pub all : 8 * spanOf b .before + sum (between (spanOf b .from) (spanOf b .to) (fieldWidths b)) + spanOf b .after ≡ 88
+  pub after : spanOf b .after < 64
+  pub before : spanOf b .before ≤ 7
+  pub ordered : spanOf b .from ≤ spanOf b .to
+  pub within : spanOf b .to ≤ fieldCount
 
-apart-indices : (b : Body) → apart fieldCount (0 ∷ 1 ∷ 2 ∷ 3 ∷ indices b) ≡ true
-unfolding rightRow
-apart-indices b =
-    and-eq-true-iff (eqb (sum (widths (segmentsOf (row b)))) 88) (apart fieldCount (0 ∷ 1 ∷ 2 ∷ 3 ∷ indicesOf (row b))) .0 (right-row b) .1
+pub right : (b : Body) → Right b
+unfolding rightRow EachTrue
+right b =
+    let s = spanOf b in
+    let ws = between (s .from) (s .to) (fieldWidths b) in
+    let h = each-true (rightRow b) (right-row b) in
+    let t = h .1 .1 in
+    let n = t .1 .1 in
+    record {
+      whole = eqb-true (sum (widths (layout b))) 88 (h .0);
+      separate = h .1 .0;
+      room = layoutb-layout ws (11 - s .before) (t .0);
+      all = eqb-true (8 * s .before + sum ws + s .after) 88 (t .1 .0);
+      after = ltb-true (s .after) 64 (n .0);
+      before = leb-true (s .before) 7 (n .1 .0);
+      ordered = leb-true (s .from) (s .to) (n .1 .1 .0);
+      within = leb-true (s .to) fieldCount (n .1 .1 .1 .0);
+    }
+
+pub layout-sum : (b : Body) → sum (widths (layout b)) ≡ 88
+layout-sum b = right b .whole
 
 record Placed (ks : List ℕ) : Type 0 where
   reference : absent 0 ks ≡ true
@@ -118,7 +168,7 @@ record Placed (ks : List ℕ) : Type 0 where
 placed : (b : Body) → Placed (indices b)
 placed b =
     let ks = indices b in
-    let h0 = and-eq-true-iff (absent 0 ks) (apart fieldCount (1 ∷ 2 ∷ 3 ∷ ks)) .0 (apart-indices b) in
+    let h0 = and-eq-true-iff (absent 0 ks) (apart fieldCount (1 ∷ 2 ∷ 3 ∷ ks)) .0 (right b .separate) in
     let h1 = and-eq-true-iff (absent 1 ks) (apart fieldCount (2 ∷ 3 ∷ ks)) .0 (h0 .1) in
     let h2 = and-eq-true-iff (absent 2 ks) (apart fieldCount (3 ∷ ks)) .0 (h1 .1) in
     let h3 = and-eq-true-iff (absent 3 ks) (apart fieldCount ks) .0 (h2 .1) in

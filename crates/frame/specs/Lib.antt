@@ -2,6 +2,7 @@ pub mod Pattern
 pub mod Identification
 pub mod Entry
 pub mod Body
+pub mod Span
 pub mod Fields
 pub mod Read
 pub mod Write

@@ -1,77 +1,31 @@
 -- The table of the bodies in the code, beside the rows of the definition: the same bits, the same record. Assumes nothing.
 use mathlib.Core.Path.{_≡_, refl, sym, ap, ap₂, _∙_, subst}
-use mathlib.Core.Bool.{Bool, true, false, not, _&&_, and-true, and-eq-true-iff}
+use mathlib.Core.Bool.{Bool, true, false, not, _&&_, and-true}
 use mathlib.Core.List.{List, [], _∷_, _++_, append-assoc, append-nil}
 use Prim.Native.Nat.{ℕ, zero, suc, _+_, _-_, _*_, _^_, _≤_, _<_}
 use native.Mathlib.Omega.{arith}
-use lib.Dec.{eqb, leb, ltb}
+use lib.Dec.{eqb}
 use lib.ListN.{length, take, drop, set, replicate, length-append, length-drop, drop-of-length-le}
 use lib.Seq.{paste, take-nil, take-take, take-all, drop-at, take-at, take-add, take-append-le, drop-drop, length-take-le}
-use borrow.Author.Tests.{eqb-true, eqb-false, eq-eqb, ne-eqb, ltb-true, leb-true, not-true, not-false}
+use borrow.Author.Tests.{eqb-true, eqb-false, eq-eqb, ne-eqb, not-true, not-false}
 use Rattle.bits.specs.Bits.{odd, value, bitsOf, bits}
 use Rattle.bits.specs.Field.{putOf}
-use Rattle.bits.specs.Layout.{pack, unpack, sum, Layout, layoutb}
+use Rattle.bits.specs.Layout.{pack, unpack, sum, Layout}
 use Rattle.bits.specs.Segment.{fixedOnes, segment, widths, freeWidths, holds, fixedHold, free, withFixed, packSegments, unpackSegments, fixedBitsHold}
 use Rattle.bits.proofs.Bits.{length-bitsOf, length-bits, bits-drop, bits-append, bits-take, value-take-lt, value-append}
 use Rattle.bits.proofs.Field.{within-room, bits-putOf, length-putOf}
-use Rattle.bits.proofs.Layouts.{layoutb-layout}
 use Rattle.frame.specs.Body.{row, layout, ownUpdate}
+use Rattle.frame.specs.Span.{spanOf, between}
 use Rattle.frame.specs.Fields.{fieldCount, fields, recordFrom, gather, scatter, fieldWidths, bodyValues, recordOf}
 use Rattle.frame.specs.declared.Body.{Body}
 use Rattle.frame.specs.declared.Body.the-variants.{AreaPage, PlacePage, CancelPage, NoInformation}
+use Rattle.frame.specs.declared.Span.{Span}
 use Rattle.frame.specs.declared.Record.{Record}
-use Rattle.frame.proofs.Bodies.{layout-sum, length-fieldWidths}
-use Rattle.frame_fields.specs.Table.{spanOf, between, fieldsRead, onesHold, onesWritten, detailsOf}
+use Rattle.frame.proofs.Bodies.{layout-sum, length-fieldWidths, right}
+use Rattle.frame_fields.specs.Table.{fieldsRead, onesHold, onesWritten, detailsOf}
 use Rattle.frame_fields.specs.declared.Details.{Details}
-use Rattle.frame_fields.specs.declared.Span.{Span}
 
--- ---- what is to be seen of a body
-
--- its widths find room after the bytes before them, with the bits after them they are all 88, and its fields are of the record
-rightTable : Body → Bool
-rightTable b =
-    let s = spanOf b in
-    let ws = between (s .from) (s .to) (fieldWidths b) in
-    layoutb ws (11 - s .before)
-    && (eqb (8 * s .before + sum ws + s .after) 88 && (ltb (s .after) 64 && (leb (s .before) 7 && (leb (s .from) (s .to) && leb (s .to) fieldCount))))
-
-right-table : (b : Body) → rightTable b ≡ true
-unfolding rightTable row layout scatter fieldWidths freeWidths spanOf sum
-right-table AreaPage = refl
-right-table PlacePage = refl
-right-table CancelPage = refl
-right-table NoInformation = refl
-
--- the same as facts
-pub record Right (b : Body) : Type 0 where
-  pub room : Layout (between (spanOf b .from) (spanOf b .to) (fieldWidths b)) (11 - spanOf b .before)
-  pub all : 8 * spanOf b .before + sum (between (spanOf b .from) (spanOf b .to) (fieldWidths b)) + spanOf b .after ≡ 88
-  pub after : spanOf b .after < 64
-  pub before : spanOf b .before ≤ 7
-  pub ordered : spanOf b .from ≤ spanOf b .to
-  pub within : spanOf b .to ≤ fieldCount
-
-pub right : (b : Body) → Right b
-unfolding rightTable
-right b =
-    let s = spanOf b in
-    let ws = between (s .from) (s .to) (fieldWidths b) in
-    let n = 8 * s .before + sum ws + s .after in
-    let h1 = and-eq-true-iff (layoutb ws (11 - s .before)) (eqb n 88 && (ltb (s .after) 64 && (leb (s .before) 7 && (leb (s .from) (s .to) && leb (s .to) fieldCount)))) .0 (right-table b) in
-    let h2 = and-eq-true-iff (eqb n 88) (ltb (s .after) 64 && (leb (s .before) 7 && (leb (s .from) (s .to) && leb (s .to) fieldCount))) .0 (h1 .1) in
-    let h3 = and-eq-true-iff (ltb (s .after) 64) (leb (s .before) 7 && (leb (s .from) (s .to) && leb (s .to) fieldCount)) .0 (h2 .1) in
-    let h4 = and-eq-true-iff (leb (s .before) 7) (leb (s .from) (s .to) && leb (s .to) fieldCount) .0 (h3 .1) in
-    let h5 = and-eq-true-iff (leb (s .from) (s .to)) (leb (s .to) fieldCount) .0 (h4 .1) in
-    record {
-      room = layoutb-layout ws (11 - s .before) (h1 .0);
-      all = eqb-true n 88 (h2 .0);
-      after = ltb-true (s .after) 64 (h3 .0);
-      before = leb-true (s .before) 7 (h4 .0);
-      ordered = leb-true (s .from) (s .to) (h5 .0);
-      within = leb-true (s .to) fieldCount (h5 .1);
-    }
-
--- and of the numbers that the code has for it
+-- what is known of the numbers that the code has for a body
 pub record Bounded (s : Span) : Type 0 where
   pub before : s .before ≤ 7
   pub after : s .after < 64

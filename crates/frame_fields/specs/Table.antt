@@ -1,49 +1,17 @@
--- A body as the code has it, and what its details hold. No promise speaks of these. Assumes nothing.
+-- What the details of a body hold, by the table of the bodies as the code has it. No promise speaks of these. Assumes nothing.
 use mathlib.Core.Bool.{Bool, _&&_}
-use mathlib.Core.List.{List, [], _∷_, _++_}
-use Prim.Native.Nat.{ℕ, suc, _+_, _-_, _*_, _/_, _^_}
-use lib.ListN.{getD, take, drop, replicate}
+use mathlib.Core.List.{List, _++_}
+use Prim.Native.Nat.{ℕ, _-_, _*_, _^_}
+use lib.ListN.{take, drop, replicate}
 use Rattle.bits.specs.Bits.{value}
 use Rattle.bits.specs.Field.{putOf}
 use Rattle.bits.specs.Layout.{unpack}
 use Rattle.bits.specs.Segment.{fixedOnes, holds, unpackSegments, fixedBitsHold}
-use Rattle.frame.specs.Entry.{Entry, held, ones}
-use Rattle.frame.specs.Body.{row, layout, indices}
+use Rattle.frame.specs.Body.{layout}
+use Rattle.frame.specs.Span.{spanOf, between}
 use Rattle.frame.specs.Fields.{fieldCount, fieldWidths, recordOf}
 use Rattle.frame.specs.declared.Body.{Body}
 use Rattle.frame_fields.specs.declared.Details.{Details}
-use Rattle.frame_fields.specs.declared.Span.{Span}
-
--- the bits of a row that are fixed at 1: all of them, and those before its fields
-abbrev pub onesIn : List Entry → ℕ
-onesIn [] = 0
-onesIn (held k w ∷ l) = onesIn l
-onesIn (ones w ∷ l) = w + onesIn l
-
-abbrev pub leadingOnes : List Entry → ℕ
-leadingOnes [] = 0
-leadingOnes (held k w ∷ l) = 0
-leadingOnes (ones w ∷ l) = w + leadingOnes l
-
--- the last of some indices
-abbrev pub lastOf : List ℕ → ℕ
-lastOf [] = 0
-lastOf (k ∷ []) = k
-lastOf (k ∷ j ∷ l) = lastOf (j ∷ l)
-
--- where a body's fields stand
-unfoldable pub spanOf : Body → Span
-spanOf b =
-    record {
-      from = getD (indices b) 0 0;
-      to = suc (lastOf (indices b));
-      before = leadingOnes (row b) / 8;
-      after = onesIn (row b) - leadingOnes (row b);
-    }
-
--- the elements from index m up to index n
-abbrev pub between : (m n : ℕ) → List ℕ → List ℕ
-between m n l = take (n - m) (drop m l)
 
 -- the values in the details d, each at its field's index, and 0 for every other field
 unfoldable pub fieldsRead : Body → List Bool → List ℕ

@@ -8,10 +8,12 @@ ghost use Rattle.bits.specs.Bits.{bits};
 ghost use Rattle.bits.specs.Segment.{packSegments};
 ghost use Rattle.frame.specs.Body.{layout, ownUpdate};
 ghost use Rattle.frame.specs.Fields.{fieldCount, fields, recordFrom, fieldWidths, bodyValues};
-ghost use Rattle.frame_fields.specs.Table.{spanOf, fieldsRead, onesHold, onesWritten, detailsOf};
+ghost use Rattle.frame.specs.Span.{spanOf};
+ghost use Rattle.frame_fields.specs.Table.{fieldsRead, onesHold, onesWritten, detailsOf};
 use frame::Body;
 use frame::FIELDS;
 use frame::Record;
+use frame::Span;
 
 // What the details hold: whether the fixed bits are as they should be, and the record.
 pub struct Details {
@@ -95,15 +97,7 @@ pub fn field_widths(body: Body) -> [usize; FIELDS]
     }
 }
 
-// Where a body's fields stand: those of the record from index `from` up to index `to`, after so many bytes of bits fixed at 1, and with so many
-// bits fixed at 1 after them.
-struct Span {
-    from: usize,
-    to: usize,
-    before: usize,
-    after: usize,
-}
-
+// Where a body's fields stand.
 fn span_of(body: Body) -> Span
     ensures { λ r. ⌜ r ≡ spanOf body ⌝ }
 {

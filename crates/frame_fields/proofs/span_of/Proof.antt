@@ -1,6 +1,6 @@
 -- `frame_fields::span_of` meets its contract. Assumes nothing.
 use Rattle.frame.specs.Body.{row}
-use Rattle.frame_fields.specs.Table.{spanOf}
+use Rattle.frame.specs.Span.{spanOf}
 use mathlib.Core.Path.{ap, sym}
 use borrow.Author.Needs.{needs}
 use Rattle.frame_fields.proofs.span_of.Statement.{statement}
