@@ -21,10 +21,10 @@ use Rattle.frame.specs.Body.{bodyOf, layout}
 use Rattle.frame.specs.Fields.{overLimit}
 use Rattle.frame.specs.Read.{classIn, bodyIn, detailsIn, recordIn, beforeRepair, afterRepair}
 use Rattle.frame_reader.specs.Examined.{wordDetails, Tells}
-use Rattle.frame_fields.specs.Table.{detailsOf}
+use Rattle.frame_details.specs.Details.{detailsOf}
 use Rattle.frame.specs.declared.Class.{Class}
 use Rattle.frame.specs.declared.Body.{Body}
-use Rattle.frame_fields.specs.declared.Details.{Details}
+use Rattle.frame_details.specs.declared.Details.{Details}
 use Rattle.frame.proofs.Bodies.{taken}
 
 -- a field that lies in 26 bytes

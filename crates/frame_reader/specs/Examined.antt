@@ -11,8 +11,8 @@ use Rattle.bits.specs.Refusal.{firstRefusal}
 use Rattle.dsc.specs.Repair.{repairOf}
 use Rattle.frame.specs.Body.{layout}
 use Rattle.frame.specs.Read.{identificationIn, bodyIn, detailsIn, recordIn, afterRepair, frameRefusal, readOf}
-use Rattle.frame_fields.specs.Table.{detailsOf}
-use Rattle.frame_fields.specs.declared.Details.{Details}
+use Rattle.frame_details.specs.Details.{detailsOf}
+use Rattle.frame_details.specs.declared.Details.{Details}
 use Rattle.frame_reader.specs.declared.Examined.{Examined}
 use Rattle.frame.specs.declared.Record.{Record}
 use Rattle.frame.specs.declared.Reading.the-variants.{Accepted, Refused}

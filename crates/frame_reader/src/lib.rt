@@ -16,7 +16,7 @@ use frame::Cleaned;
 use frame::Damage;
 use frame::Reading;
 use frame::Verdict;
-use frame_fields::Details;
+use frame_details::Details;
 
 // A frame examined: what is read, with the repaired word beside it, which is 0 on a refusal.
 pub struct Examined {
@@ -61,7 +61,7 @@ fn word_details(reference: u64, pattern: u64, word: &[u8]) -> Details
     let body = word_body(word);
     let identification = bit_fields::get(word, 21, 3);
     let update = bit_fields::get(word, 19, 2);
-    frame_fields::read_details(body, reference, pattern, identification, update, &word[3..])
+    frame_details::read_details(body, reference, pattern, identification, update, &word[3..])
 }
 
 // The CRC of a repaired frame is not the one that stands in it.

@@ -100,7 +100,7 @@ fn write_details(contents: Record, part: &mut [u8])
     requires { ⌜ 11 ≤ length (now part) ⌝ }
     ensures { λ _. ⌜ bits (now (part .exit)) ≡ detailBits contents ++ drop 88 (bits (now (part .entry))) ⌝ }
 {
-    frame_fields::write_details(record_body(contents), contents, part);
+    frame_details::write_details(record_body(contents), contents, part);
 }
 
 // The frame of a record, whatever stood in the bytes before. The filler comes first, so that each later step

@@ -11,7 +11,7 @@ use Rattle.frame.specs.Body.{layout}
 use Rattle.frame.specs.Span.{spanOf, between}
 use Rattle.frame.specs.Fields.{fieldCount, fieldWidths, recordOf}
 use Rattle.frame.specs.declared.Body.{Body}
-use Rattle.frame_fields.specs.declared.Details.{Details}
+use Rattle.frame_details.specs.declared.Details.{Details}
 
 -- the values in the details d, each at its field's index, and 0 for every other field
 unfoldable pub fieldsRead : Body → List Bool → List ℕ

@@ -1,12 +1,13 @@
--- `frame_fields::ones_hold` meets its contract. Assumes nothing.
+-- `frame_details::ones_hold` meets its contract. Assumes nothing.
 use mathlib.Core.Path.{refl}
 use denote.Ref.{now}
 use Rattle.bits.specs.Bits.{bits}
 use native.Mathlib.Omega.{arith}
-use Rattle.frame_fields.proofs.Tables.{bounded, ones-missing, ones-last}
+use Rattle.frame_details.proofs.Spans.{bounded}
+use Rattle.frame_details.proofs.Reading.{ones-missing, ones-last}
 use borrow.Author.Needs.{needs}
-use Rattle.frame_fields.proofs.ones_hold.Statement.{statement}
-use Rattle.frame_fields.proofs.ones_hold.Tie as tie
+use Rattle.frame_details.proofs.ones_hold.Statement.{statement}
+use Rattle.frame_details.proofs.ones_hold.Tie as tie
 
 span-of-requires : tie.Need-span-of-requires
 span-of-requires c κs = search needs

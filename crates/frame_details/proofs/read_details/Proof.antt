@@ -1,12 +1,12 @@
--- `frame_fields::read_details` meets its contract. Assumes nothing.
+-- `frame_details::read_details` meets its contract. Assumes nothing.
 use native.Mathlib.Omega.{arith}
 use denote.Ref.{now}
 use Rattle.bits.specs.Bits.{bits}
 use Rattle.bits.proofs.Bits.{length-bits}
-use Rattle.frame_fields.proofs.Tables.{details-read}
+use Rattle.frame_details.proofs.Reading.{details-read}
 use borrow.Author.Needs.{needs}
-use Rattle.frame_fields.proofs.read_details.Statement.{statement}
-use Rattle.frame_fields.proofs.read_details.Tie as tie
+use Rattle.frame_details.proofs.read_details.Statement.{statement}
+use Rattle.frame_details.proofs.read_details.Tie as tie
 
 ones-hold-requires : tie.Need-ones-hold-requires
 ones-hold-requires c κs = search needs
@@ -29,15 +29,18 @@ own-update-requires c κs = search needs
 array-write-v-4 : tie.Need-array-write-v-4
 array-write-v-4 c = search needs
 
-record-in-requires : tie.Need-record-in-requires
-record-in-requires c κs = search needs
+slice-aggregate-record-of : tie.Need-slice-aggregate-record-of
+slice-aggregate-record-of c = search needs
+
+record-of-requires : tie.Need-record-of-requires
+record-of-requires c κs = search needs
 
 returns : tie.Need-returns
 returns c =
     let s = c .before .before .before .before .before .before in
     let d = bits (now (s .args .details)) in
     details-read (s .args .body) (s .args .reference) (s .args .pattern) (s .args .identification) (s .args .update) d (omega (arith, length-bits (now (s .args .details)), s .pre))
-    (c .before .before .before .before .ones-hold .ensures) (c .before .before .before .read-fields .ensures) (c .before .before .own-update .ensures) (c .record-in .ensures)
+    (c .before .before .before .before .ones-hold .ensures) (c .before .before .before .read-fields .ensures) (c .before .before .own-update .ensures) (c .record-of .ensures)
 
 pub read-details-spec : {M : Type 1} → statement M
 read-details-spec =
@@ -50,5 +53,6 @@ read-details-spec =
     array-write-v-3
     own-update-requires
     array-write-v-4
-    record-in-requires
+    slice-aggregate-record-of
+    record-of-requires
     returns)

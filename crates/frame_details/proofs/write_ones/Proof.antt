@@ -1,12 +1,13 @@
--- `frame_fields::write_ones` meets its contract. Assumes nothing.
+-- `frame_details::write_ones` meets its contract. Assumes nothing.
 use denote.Ref.{now}
 use Prim.Native.Nat.{_*_}
 use lib.Pow.{pow-pos}
 use native.Mathlib.Omega.{arith}
-use Rattle.frame_fields.proofs.Tables.{bounded, ones-put}
+use Rattle.frame_details.proofs.Spans.{bounded}
+use Rattle.frame_details.proofs.Writing.{ones-put}
 use borrow.Author.Needs.{needs}
-use Rattle.frame_fields.proofs.write_ones.Statement.{statement}
-use Rattle.frame_fields.proofs.write_ones.Tie as tie
+use Rattle.frame_details.proofs.write_ones.Statement.{statement}
+use Rattle.frame_details.proofs.write_ones.Tie as tie
 
 span-of-requires : tie.Need-span-of-requires
 span-of-requires c κs = search needs

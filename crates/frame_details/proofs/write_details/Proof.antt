@@ -1,12 +1,13 @@
--- `frame_fields::write_details` meets its contract. Assumes nothing.
+-- `frame_details::write_details` meets its contract. Assumes nothing.
 use mathlib.Core.Path.{refl, ap}
 use native.Mathlib.Omega.{arith}
 use lib.ListN.{length}
 use denote.Ref.{now}
-use Rattle.frame_fields.proofs.Tables.{bounded, length-widths, room-kept, room-in, count-in, details-written}
+use Rattle.frame_details.proofs.Spans.{bounded, from-byte, from-field, to-field, length-widths, room-in, count-in}
+use Rattle.frame_details.proofs.Writing.{room-kept, details-written}
 use borrow.Author.Needs.{needs}
-use Rattle.frame_fields.proofs.write_details.Statement.{statement}
-use Rattle.frame_fields.proofs.write_details.Tie as tie
+use Rattle.frame_details.proofs.write_details.Statement.{statement}
+use Rattle.frame_details.proofs.write_details.Tie as tie
 
 write-ones-requires : tie.Need-write-ones-requires
 write-ones-requires c κs = search needs
@@ -21,37 +22,37 @@ fields-of-requires : tie.Need-fields-of-requires
 fields-of-requires c κs = search needs
 
 sub-write-all : tie.Need-sub-write-all
-sub-write-all c = let h = bounded _ (c .before .before .span-of .ensures) in omega (arith, h .before, h .ordered, h .within, room-kept _ _ (c .before .before .before .before .before .before .before .before .pre) (c .before .before .before .before .before .write-ones .ensures))
+sub-write-all c = from-byte _ (c .before .before .span-of .ensures) (room-kept _ _ (c .before .before .before .before .before .before .before .before .pre) (c .before .before .before .before .before .write-ones .ensures))
 
 part-write-all-start : tie.Need-part-write-all-start
-part-write-all-start c = let h = bounded _ (c .before .before .span-of .ensures) in omega (arith, h .before, h .ordered, h .within, room-kept _ _ (c .before .before .before .before .before .before .before .before .pre) (c .before .before .before .before .before .write-ones .ensures))
+part-write-all-start c = from-byte _ (c .before .before .span-of .ensures) (room-kept _ _ (c .before .before .before .before .before .before .before .before .pre) (c .before .before .before .before .before .write-ones .ensures))
 
 part-write-all-end : tie.Need-part-write-all-end
 part-write-all-end c = search needs
 
 mul-write-all : tie.Need-mul-write-all
-mul-write-all c = let h = bounded _ (c .before .before .before .span-of .ensures) in omega (arith, h .before, h .ordered, h .within)
+mul-write-all c = from-field _ (c .before .before .before .span-of .ensures)
 
 sub-write-all-2 : tie.Need-sub-write-all-2
-sub-write-all-2 c = let h = bounded _ (c .before .before .before .span-of .ensures) in omega (arith, h .before, h .ordered, h .within)
+sub-write-all-2 c = bounded _ (c .before .before .before .span-of .ensures) .ordered
 
 part-write-all-start-2 : tie.Need-part-write-all-start-2
-part-write-all-start-2 c = let h = bounded _ (c .before .before .before .before .span-of .ensures) in omega (arith, h .before, h .ordered, h .within)
+part-write-all-start-2 c = bounded _ (c .before .before .before .before .span-of .ensures) .ordered
 
 part-write-all-end-2 : tie.Need-part-write-all-end-2
-part-write-all-end-2 c = let h = bounded _ (c .before .before .before .before .span-of .ensures) in omega (arith, h .before, h .ordered, h .within, length-widths _ (c .before .before .before .field-widths .ensures))
+part-write-all-end-2 c = to-field _ (c .before .before .before .before .span-of .ensures) (length-widths _ (c .before .before .before .field-widths .ensures))
 
 mul-write-all-2 : tie.Need-mul-write-all-2
-mul-write-all-2 c = let h = bounded _ (c .before .before .before .before .before .span-of .ensures) in omega (arith, h .before, h .ordered, h .within)
+mul-write-all-2 c = from-field _ (c .before .before .before .before .before .span-of .ensures)
 
 sub-write-all-3 : tie.Need-sub-write-all-3
-sub-write-all-3 c = let h = bounded _ (c .before .before .before .before .before .span-of .ensures) in omega (arith, h .before, h .ordered, h .within)
+sub-write-all-3 c = bounded _ (c .before .before .before .before .before .span-of .ensures) .ordered
 
 part-write-all-start-3 : tie.Need-part-write-all-start-3
-part-write-all-start-3 c = let h = bounded _ (c .before .before .before .before .before .before .span-of .ensures) in omega (arith, h .before, h .ordered, h .within)
+part-write-all-start-3 c = bounded _ (c .before .before .before .before .before .before .span-of .ensures) .ordered
 
 part-write-all-end-3 : tie.Need-part-write-all-end-3
-part-write-all-end-3 c = let h = bounded _ (c .before .before .before .before .before .before .span-of .ensures) in omega (arith, h .before, h .ordered, h .within, ap length (c .before .before .before .before .fields-of .ensures))
+part-write-all-end-3 c = to-field _ (c .before .before .before .before .before .before .span-of .ensures) (ap length (c .before .before .before .before .fields-of .ensures))
 
 write-all-requires : tie.Need-write-all-requires
 write-all-requires c κs =
@@ -60,7 +61,7 @@ write-all-requires c κs =
     let e = c .before .before .before .before .before .before .before .span-of .ensures in
     let w = c .before .before .before .before .before .before .field-widths .ensures in
     let h = room-kept (s .args .body) (now (s .args .part)) (s .pre) (o .ensures) in
-    (room-in (s .args .body) (o .last .1 .0) e w h, count-in (s .args .body) (o .last .1 .0) e w h _ (ap length (c .before .before .before .before .before .fields-of .ensures)))
+    (room-in (s .args .body) e w (o .last .1 .0) h, count-in (s .args .body) e w _ (ap length (c .before .before .before .before .before .fields-of .ensures)))
 
 same-length : tie.Need-same-length
 same-length c = search needs

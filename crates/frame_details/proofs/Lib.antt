@@ -1,0 +1,4 @@
+pub mod Spans
+pub mod Rows
+pub mod Reading
+pub mod Writing
