@@ -20,7 +20,7 @@ use Rattle.frame.specs.Identification.{classOf, flagsWrong, isUndefined}
 use Rattle.frame.specs.Body.{bodyOf, layout}
 use Rattle.frame.specs.Fields.{overLimit}
 use Rattle.frame.specs.Read.{classIn, bodyIn, detailsIn, recordIn, beforeRepair, afterRepair}
-use Rattle.frame_reader.specs.Examined.{wordDetails, Tells}
+use Rattle.frame_refusals.specs.Word.{wordDetails, Tells}
 use Rattle.frame_details.specs.Details.{detailsOf}
 use Rattle.frame.specs.declared.Class.{Class}
 use Rattle.frame.specs.declared.Body.{Body}

@@ -1,0 +1,93 @@
+// The tests of a frame: those before the repair, and those of the repaired frame.
+ghost use mathlib.Core.Path.{_≡_};
+ghost use mathlib.Core.Bool.{not};
+ghost use lib.Dec.{eqb};
+ghost use lib.ListN.{length, take, drop};
+ghost use Rattle.bits.specs.Bits.{bits};
+ghost use Rattle.bits.specs.Field.{fieldAt};
+ghost use Rattle.bits.specs.Refusal.{firstRefusal};
+ghost use Rattle.crc.specs.Crc.{crc10Of};
+ghost use Rattle.frame.specs.Read.{bodyIn, beforeRepair, afterRepair};
+ghost use Rattle.frame_refusals.specs.Word.{wordDetails, Tells};
+use frame::Body;
+use frame_details::Details;
+
+// The tests before the repair: 1, 2, 3, or 0.
+pub fn front_refusal(frame: &[u8]) -> u8
+    ensures { λ r. ⌜ r ≡ firstRefusal (beforeRepair (now (frame .entry))) ⌝ }
+{
+    if frame.len() != 26 {
+        return 1;
+    }
+    let filler = bit_fields::get(frame, 204, 4);
+    if filler != 0 {
+        return 2;
+    }
+    let pattern = frame_kinds::pattern_of(bit_fields::get(frame, 1, 16));
+    if pattern == 2 {
+        return 3;
+    }
+    0
+}
+
+// The body of a repaired frame.
+fn word_body(word: &[u8]) -> Body
+    requires { ⌜ length (now word) ≡ 26 ⌝ }
+    ensures { λ r. ⌜ r ≡ bodyIn (now (word .entry)) ⌝ }
+{
+    let class = frame_kinds::class_of(bit_fields::get(word, 21, 3));
+    let page = bit_fields::get(word, 55, 1);
+    let kind = bit_fields::get(word, 67, 1);
+    frame_kinds::body_of(class, page, kind)
+}
+
+// The details of a repaired frame. Here and below its 26 bytes are required: the caller has them from the repair.
+pub fn word_details(reference: u64, pattern: u64, word: &[u8]) -> Details
+    requires { ⌜ length (now word) ≡ 26 ⌝ }
+    ensures { λ r. ⌜ r ≡ wordDetails reference pattern (now (word .entry)) ⌝ }
+{
+    let body = word_body(word);
+    let identification = bit_fields::get(word, 21, 3);
+    let update = bit_fields::get(word, 19, 2);
+    frame_details::read_details(body, reference, pattern, identification, update, &word[3..])
+}
+
+// The CRC of a repaired frame is not the one that stands in it.
+fn crc_differs(word: &[u8]) -> bool
+    requires { ⌜ length (now word) ≡ 26 ⌝ }
+    ensures { λ r. ⌜ r ≡ not (eqb (fieldAt (now (word .entry)) 112 10) (crc10Of (take 91 (drop 21 (bits (now (word .entry))))))) ⌝ }
+{
+    let stands = bit_fields::get(word, 112, 10);
+    let crc = crc10::crc10(word, 21, 91);
+    stands != crc as u64
+}
+
+// The tests after the repair: 5 to 9, or 0.
+pub fn word_refusal(word: &[u8], details: Details) -> u8
+    requires { ⌜ (length (now word) ≡ 26) × Tells (now word) details ⌝ }
+    ensures { λ r. ⌜ r ≡ firstRefusal (afterRepair (now (word .entry))) ⌝ }
+{
+    if crc_differs(word) {
+        return 5;
+    }
+    let class = frame_kinds::class_of(bit_fields::get(word, 21, 3));
+    if frame_kinds::is_undefined(class) {
+        return 6;
+    }
+    let start = bit_fields::get(word, 17, 2);
+    let update = bit_fields::get(word, 19, 2);
+    if frame_kinds::flags_wrong(class, start, update) {
+        return 7;
+    }
+    if !details.holds {
+        return 8;
+    }
+    if frame_kinds::over_limit(
+        word_body(word),
+        details.contents.latitude,
+        details.contents.longitude,
+    ) {
+        return 9;
+    }
+    0
+}
