@@ -6,9 +6,15 @@
 //
 // An answer is a line: the case's number, a status, and the lent slice as it stands after the call, bytes after a colon, numbers after a space each, all hexadecimal but the
 // case's number. What stands n times in a row is written once, with `*n`, and of bytes a point.
-ghost use Prim.Native.Nat.{_≤_, _<_};
+ghost use Prim.Native.Nat.{_+_, _/_, _≤_, _<_, min};
 ghost use mathlib.Core.Path.{_≡_};
-ghost use lib.ListN.{length};
+ghost use mathlib.Core.Bool.{true, false};
+ghost use mathlib.Core.List.{_++_};
+ghost use lib.ListN.{length, take, drop, replicate};
+ghost use lib.Ieee.{nan, binary64, ofBits, toBits};
+ghost use Rattle.bits.specs.Bits.{value, bits};
+ghost use Rattle.bits.specs.Field.{getOf};
+ghost use Rattle.test_cases.specs.Numbers.{numbersOf};
 use libc::STDIN_FILENO;
 use libc::STDOUT_FILENO;
 
@@ -30,7 +36,9 @@ struct Run {
 
 // ---- cases
 
-fn wide(b: u8) -> usize {
+fn wide(b: u8) -> usize
+    ensures { λ r. ⌜ r ≡ b ⌝ }
+{
     b as usize
 }
 
@@ -46,7 +54,9 @@ fn next_run() -> Run {
     }
 }
 
-fn fill(s: &mut [u8], byte: u8) {
+fn fill(s: &mut [u8], byte: u8)
+    ensures { λ _. ⌜ now (s .exit) ≡ replicate (length (now (s .entry))) byte ⌝ }
+{
     for i in 0..s.len() {
         s[i] = byte;
     }
@@ -75,6 +85,7 @@ fn read_runs(s: &mut [u8], n: usize) -> bool {
 
 fn no_case() -> Case
     ensures { λ r. ⌜ (r .input ≤ 4064) × (r .lent ≤ 4064) ⌝ }
+    ensures { λ r. ⌜ r .found ≡ false ⌝ }
 {
     Case {
         found: false,
@@ -90,6 +101,7 @@ fn no_case() -> Case
 // Tells that the input has no case here, or one that there is not: it cannot be read any further.
 pub fn wrong() -> Case
     ensures { λ r. ⌜ (r .input ≤ 4064) × (r .lent ≤ 4064) ⌝ }
+    ensures { λ r. ⌜ r .found ≡ false ⌝ }
 {
     io::write_all(STDOUT_FILENO, b" wrong case\n");
     no_case()
@@ -98,6 +110,8 @@ pub fn wrong() -> Case
 // The case whose numbers stand in front.
 fn case_of(operation: u8, numbers: &[u8], input: usize, lent: usize) -> Case
     ensures { λ r. ⌜ (r .input ≡ input) × (r .lent ≡ lent) ⌝ }
+    ensures { λ r. ⌜ (r .found ≡ true) × (r .operation ≡ operation) ⌝ }
+    ensures { λ r. ⌜ (r .a ≡ getOf (now (numbers .entry)) 0 64) × (r .b ≡ getOf (now (numbers .entry)) 64 64) × (r .c ≡ getOf (now (numbers .entry)) 128 64) ⌝ }
 {
     Case {
         found: true,
@@ -153,27 +167,39 @@ pub fn next_case(n: u64, first: &mut [u8], second: &mut [u8]) -> Case
     read_slices(head[0], input, lent, first, second)
 }
 
-// Zeros. The `ensures` gives only the length, which a part of the array needs.
+// Zeros; their number is said too, since a part of the array needs it.
 pub fn no_values() -> [u64; 508]
     ensures { λ r. ⌜ 508 ≡ length r ⌝ }
+    ensures { λ r. ⌜ r ≡ replicate 508 0 ⌝ }
 {
     [0; 508]
 }
 
-// The numbers that bytes make up, eight each, and how many there are.
+// The number that the eight bytes from place at on make up.
+fn number_at(s: &[u8], at: usize) -> u64
+    requires { ⌜ at + 8 ≤ length (now s) ⌝ }
+    ensures { λ r. ⌜ r ≡ value (bits (take 8 (drop at (now (s .entry))))) ⌝ }
+{
+    bit_fields::get(&s[at..at + 8], 0, 64)
+}
+
+// The numbers that bytes make up, eight each, as many as there are and have room; and how many that is.
 pub fn values(s: &[u8], out: &mut [u64]) -> usize
     ensures { λ r. ⌜ r ≤ length (now (out .exit)) ⌝ }
+    ensures { λ r. ⌜ r ≡ min (length (now (s .entry)) / 8) (length (now (out .entry))) ⌝ }
+    ensures { λ r. ⌜ now (out .exit) ≡ numbersOf r (now (s .entry)) ++ drop r (now (out .entry)) ⌝ }
 {
-    let mut at = 0;
-    for i in 0..out.len() {
-        out[i] = bit_fields::get(s, at, 64);
-        at = std::num::wrapping_add_usize(at, 64);
+    let n = numbers::smaller(s.len() / 8, out.len());
+    for i in 0..n {
+        out[i] = number_at(s, 8 * i);
     }
-    numbers::smaller(s.len() / 8, out.len())
+    n
 }
 
 // The double with these bits. The language has one NaN and not its bits: which of three divisions or differences makes it goes by the sign and the highest bit of the fraction.
-pub fn double(bits: u64) -> f64 {
+pub fn double(bits: u64) -> f64
+    ensures { λ r. ⌜ r ≡ ofBits binary64 bits ⌝ }
+{
     if bits % 0x8000000000000000 / 0x10000000000000 == 2047 {
         if bits % 0x10000000000000 != 0 {
             return not_a_number(bits);
@@ -183,7 +209,9 @@ pub fn double(bits: u64) -> f64 {
     f64::from_bits(bits)
 }
 
-fn not_a_number(bits: u64) -> f64 {
+fn not_a_number(bits: u64) -> f64
+    ensures { λ r. ⌜ r ≡ nan ⌝ }
+{
     let infinite = 1.0 / 0.0;
     if 0x8000000000000000 <= bits {
         return -(infinite - infinite);
@@ -195,7 +223,9 @@ fn not_a_number(bits: u64) -> f64 {
 }
 
 // A double's bits, those of one NaN for any.
-pub fn bits_of(x: f64) -> u64 {
+pub fn bits_of(x: f64) -> u64
+    ensures { λ r. ⌜ r ≡ toBits binary64 x ⌝ }
+{
     if x == x {
         return f64::to_bits(x);
     }
@@ -237,7 +267,9 @@ fn after_byte(s: &[u8], i: usize, n: u64) -> u64
 }
 
 // Ends an answer with a lent slice of bytes; the next case may be read.
-pub fn end_bytes(s: &[u8]) -> bool {
+pub fn end_bytes(s: &[u8]) -> bool
+    ensures { λ r. ⌜ r ≡ true ⌝ }
+{
     io::write_all(STDOUT_FILENO, b":");
     let mut n = 1;
     for i in 0..s.len() {
@@ -262,7 +294,9 @@ fn after_value(s: &[u64], i: usize, n: u64) -> u64
 }
 
 // Ends an answer with a lent slice of numbers.
-pub fn end_values(s: &[u64]) -> bool {
+pub fn end_values(s: &[u64]) -> bool
+    ensures { λ r. ⌜ r ≡ true ⌝ }
+{
     let mut n = 1;
     for i in 0..s.len() {
         n = after_value(s, i, n);

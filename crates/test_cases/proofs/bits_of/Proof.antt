@@ -1,9 +1,10 @@
--- `test_cases::bits_of` is safe and ends: only a number equals itself. Assumes nothing.
+-- `test_cases::bits_of` meets its contract: what differs from itself is a NaN. Assumes nothing.
 use borrow.Author.Needs.{needs}
-use mathlib.Core.Path.{_≡_, sym, subst}
-use mathlib.Core.Bool.{true, false, not}
+use mathlib.Core.Path.{_≡_, _∙_, refl, sym, ap, subst}
+use mathlib.Core.Bool.{Bool, true, false, not}
 use lib.Dec.{T}
-use lib.Ieee.{Float, nan, inf, fin, eq, isNan}
+use lib.Ieee.{Float, nan, inf, fin, eq, ne, isNan, binary64, toBits}
+use lib.Ieee.Compare.{differs-from-itself}
 use Rattle.test_cases.proofs.bits_of.Statement.{statement}
 use Rattle.test_cases.proofs.bits_of.Tie as tie
 
@@ -13,6 +14,14 @@ number nan e = let z : false ≡ true = e in subst T (sym z) tt
 number (inf s) e = tt
 number (fin s m d) e = tt
 
+nan-bits : 0x7FF8000000000000 ≡ toBits binary64 nan
+unfolding toBits
+nan-bits = refl
+
+no-number : (x : Float) → eq x x ≡ false → 0x7FF8000000000000 ≡ toBits binary64 x
+unfolding ne
+no-number x e = nan-bits ∙ ap (toBits binary64) (sym (differs-from-itself x (subst (λ (b : Bool). T (not b)) (sym e) tt)))
+
 float-to-bits-result : tie.Need-float-to-bits-result
 float-to-bits-result c = number _ (c .if1 .taken)
 
@@ -20,7 +29,7 @@ returns : tie.Need-returns
 returns c = search needs
 
 returns-2 : tie.Need-returns-2
-returns-2 c = search needs
+returns-2 c = no-number _ (c .if1 .left)
 
 pub bits-of-spec : {M : Type 1} → statement M
 bits-of-spec = tie.close (tie.spec float-to-bits-result returns returns-2)
