@@ -578,7 +578,7 @@ pub fn front_free() -> [usize; 119]
     ]
 }
 
-// The widths of the extension's fields alone.
+// The widths of the extension's fields alone, which are the 204 AC bits.
 pub fn extension_free() -> [usize; 26]
     ensures { λ r. ⌜ r ≡ freeWidths extensionLayout ⌝ }
 {
