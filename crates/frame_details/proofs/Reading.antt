@@ -1,12 +1,11 @@
 -- What the functions that read the details answer. Assumes nothing.
 use mathlib.Core.Path.{_≡_, refl, sym, ap, ap₂, _∙_}
-use mathlib.Core.Bool.{Bool, true, false, not}
+use mathlib.Core.Bool.{Bool, _&&_}
 use mathlib.Core.List.{List, [], _∷_, _++_}
 use Prim.Native.Nat.{ℕ, zero, suc, _+_, _-_, _*_, _≤_}
 use native.Mathlib.Omega.{arith}
 use lib.ListN.{length, take, drop, set, replicate}
 use lib.Seq.{take-nil, take-take, drop-drop}
-use borrow.Author.Tests.{not-true, not-false}
 use Rattle.bits.specs.Bits.{value, bits}
 use Rattle.bits.specs.Layout.{unpack, sum}
 use Rattle.bits.specs.Segment.{fixedOnes, segment, widths, holds, fixedHold, free}
@@ -51,23 +50,15 @@ details-front b x p i u d =
     ap (λ (vs : List ℕ). record { holds = fixedHold (layout b) vs; contents = recordOf b x p i u (free (layout b) vs) })
     (sym (unpack-front (widths (layout b)) 88 d (omega (arith, layout-sum b))))
 
-module _ (b : Body) {s : Span} (es : s ≡ spanOf b) where
-  before-holds : (d : List Bool) {n v : ℕ} {t : Bool} → n ≡ 8 * s .before → v ≡ value (take n d) → t ≡ holds (segment 1 n) v
-      → holds (fixedOnes (8 * spanOf b .before)) (value (take (8 * spanOf b .before) d)) ≡ t
-  before-holds d {n} en ev et =
-      let e : 8 * spanOf b .before ≡ n = sym (en ∙ ap (λ (k : Span). 8 * k .before) es) in
-      ap (λ (k : ℕ). holds (fixedOnes k) (value (take k d))) e ∙ sym (et ∙ ap (holds (fixedOnes n)) ev)
-
-  pub ones-missing : (d : List Bool) {n v : ℕ} {t : Bool} → n ≡ 8 * s .before → v ≡ value (take n d) → t ≡ holds (segment 1 n) v → not t ≡ true → false ≡ onesHold b d
-  unfolding onesHold
-  ones-missing d {n} {v} {t} en ev et e = rw (before-holds d en ev et, not-true t e)
-
-  pub ones-last : (d : List Bool) {n v a g : ℕ} {t last : Bool} → n ≡ 8 * s .before → v ≡ value (take n d) → t ≡ holds (segment 1 n) v → not t ≡ false
-      → a ≡ s .after → g ≡ value (take a (drop (88 - a) d)) → last ≡ holds (segment 1 a) g → last ≡ onesHold b d
-  unfolding onesHold
-  ones-last d {n} {v} {a} {g} {t} en ev et e ea eg el =
-      let k : a ≡ spanOf b .after = ea ∙ ap (λ (k : Span). k .after) es in
-      rw (before-holds d en ev et, not-false t e) (el ∙ ap (holds (fixedOnes a)) eg ∙ ap (λ (i : ℕ). holds (fixedOnes i) (value (take i (drop (88 - i) d)))) k)
+pub ones-seen : (b : Body) (d : List Bool) {s : Span} {v w : ℕ} {t u : Bool} → s ≡ spanOf b
+    → v ≡ value (take (8 * s .before) d) → t ≡ holds (segment 1 (8 * s .before)) v
+    → w ≡ value (take (s .after) (drop (88 - s .after) d)) → u ≡ holds (segment 1 (s .after)) w
+    → (t && u) ≡ onesHold b d
+unfolding onesHold
+ones-seen b d {s} es ev et ew eu =
+    ap₂ _&&_ (et ∙ ap (holds (fixedOnes (8 * s .before))) ev) (eu ∙ ap (holds (fixedOnes (s .after))) ew)
+    ∙ ap (λ (k : Span). holds (fixedOnes (8 * k .before)) (value (take (8 * k .before) d))
+    && holds (fixedOnes (k .after)) (value (take (k .after) (drop (88 - k .after) d)))) es
 
 pub details-read : (b : Body) (x p i u : ℕ) (d : List Bool) {v : List ℕ} {t : Bool} {o : ℕ} {r : Record} → 88 ≤ length d → t ≡ onesHold b d → v ≡ fieldsRead b d
     → o ≡ ownUpdate b u → r ≡ recordFrom (set (set (set (set v 0 x) 1 p) 2 i) 3 o)

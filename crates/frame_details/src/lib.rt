@@ -41,11 +41,9 @@ fn ones_hold(body: Body, details: &[u8]) -> bool
 {
     let span = frame_fields::span_of(body);
     let before = 8 * span.before;
-    if !bit_layouts::segment_holds(1, before, bit_fields::read_wide(details, 0, before)) {
-        return false;
-    }
     let after = span.after;
-    bit_layouts::segment_holds(1, after, bit_fields::read_wide(details, 88 - after, after))
+    bit_layouts::segment_holds(1, before, bit_fields::read_wide(details, 0, before))
+        & bit_layouts::segment_holds(1, after, bit_fields::read_wide(details, 88 - after, after))
 }
 
 // What the details of a body hold, with the fields that stand before them.
