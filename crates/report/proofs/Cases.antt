@@ -19,12 +19,12 @@ use Rattle.report.specs.declared.Reported.the-variants.{Place, Refused}
 use Rattle.report.specs.Report.{reportedBy, reportOf}
 
 -- what a body reports, as the function comes to it
-pub by-body : (r : Record) {b : Body} (d : Body) → b ≡ d → reportedBy d r ≡ reportedBy b r
-by-body r d e = ap (λ (x : Body). reportedBy x r) (sym e)
+pub body-reported : (r : Record) {b : Body} (d : Body) → b ≡ d → reportedBy d r ≡ reportedBy b r
+body-reported r d e = ap (λ (x : Body). reportedBy x r) (sym e)
 
-pub by-place : (r : Record) {b : Body} {n m k : Float} → b ≡ PlacePage → n ≡ degreesOf (r .south) (r .latitude) → m ≡ degreesOf (r .west) (r .longitude)
+pub place-reported : (r : Record) {b : Body} {n m k : Float} → b ≡ PlacePage → n ≡ degreesOf (r .south) (r .latitude) → m ≡ degreesOf (r .west) (r .longitude)
     → k ≡ kilometresOf (r .depth) → Place n m k ≡ reportedBy b r
-by-place r {m = m} {k = k} e p q o = ap (λ (x : Float). Place x m k) p ∙ ap₂ (Place (degreesOf (r .south) (r .latitude))) q o ∙ by-body r PlacePage e
+place-reported r {m = m} {k = k} e p q o = ap (λ (x : Float). Place x m k) p ∙ ap₂ (Place (degreesOf (r .south) (r .latitude))) q o ∙ body-reported r PlacePage e
 
 -- a legal record reports by its body
 pub legal : (r : Record) → Legal r → reportOf r ≡ reportedBy (recordBody r) r

@@ -1,7 +1,7 @@
 -- `report::report_by` meets its contract. Assumes nothing.
 use borrow.Author.Needs.{needs}
 use Rattle.frame.specs.declared.Body.the-variants.{AreaPage, CancelPage, NoInformation}
-use Rattle.report.proofs.Cases.{by-body, by-place}
+use Rattle.report.proofs.Cases.{body-reported, place-reported}
 use Rattle.report.proofs.report_by.Statement.{statement}
 use Rattle.report.proofs.report_by.Tie as tie
 
@@ -27,17 +27,17 @@ enum-told-4 : tie.Need-enum-told-4
 enum-told-4 c = search needs
 
 returns : tie.Need-returns
-returns c = by-body (c .before .before .args .message) AreaPage (c .enum-told .given .1)
+returns c = body-reported (c .before .before .args .message) AreaPage (c .enum-told .given .1)
 
 returns-2 : tie.Need-returns-2
 returns-2 c =
-    by-place (c .before .before .before .before .before .args .message) (c .before .before .before .enum-told2 .given .1) (c .before .before .degrees .ensures) (c .before .degrees2 .ensures) (c .kilometres .ensures)
+    place-reported (c .before .before .before .before .before .args .message) (c .before .before .before .enum-told2 .given .1) (c .before .before .degrees .ensures) (c .before .degrees2 .ensures) (c .kilometres .ensures)
 
 returns-3 : tie.Need-returns-3
-returns-3 c = by-body (c .before .before .args .message) CancelPage (c .enum-told3 .given .1)
+returns-3 c = body-reported (c .before .before .args .message) CancelPage (c .enum-told3 .given .1)
 
 returns-4 : tie.Need-returns-4
-returns-4 c = by-body (c .before .before .args .message) NoInformation (c .enum-told4 .given .1)
+returns-4 c = body-reported (c .before .before .args .message) NoInformation (c .enum-told4 .given .1)
 
 pub report-by-spec : {M : Type 1} → statement M
 report-by-spec =
