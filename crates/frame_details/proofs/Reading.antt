@@ -4,22 +4,36 @@ use mathlib.Core.Bool.{Bool, _&&_}
 use mathlib.Core.List.{List, [], _∷_, _++_}
 use Prim.Native.Nat.{ℕ, zero, suc, _+_, _-_, _*_, _≤_}
 use native.Mathlib.Omega.{arith}
-use lib.ListN.{length, take, drop, set, replicate}
-use lib.Seq.{take-nil, take-take, drop-drop}
+use lib.ListN.{length, take, drop, set, replicate, length-append, length-drop}
+use lib.Seq.{take-nil, take-take, drop-drop, length-take-le}
 use Rattle.bits.specs.Bits.{value, bits}
 use Rattle.bits.specs.Layout.{unpack, sum}
 use Rattle.bits.specs.Segment.{fixedOnes, segment, widths, holds, fixedHold, free}
+use Rattle.bits.proofs.Layouts.{length-unpack}
 use Rattle.frame.specs.Body.{layout, ownUpdate}
 use Rattle.frame.specs.Span.{spanOf, between}
 use Rattle.frame.specs.Fields.{fieldCount, recordFrom, fieldWidths, recordOf}
 use Rattle.frame.specs.declared.Body.{Body}
 use Rattle.frame.specs.declared.Span.{Span}
 use Rattle.frame.specs.declared.Record.{Record}
-use Rattle.frame.proofs.Bodies.{layout-sum}
+use Rattle.frame.proofs.Bodies.{layout-sum, length-fieldWidths, right}
 use Rattle.frame_details.specs.Details.{fieldsRead, onesHold, detailsOf}
 use Rattle.frame_details.specs.declared.Details.{Details}
-use Rattle.frame_details.proofs.Spans.{bounded, rest, bits-rest}
-use Rattle.frame_details.proofs.Rows.{record-read, length-read, fixed-bits}
+use Rattle.frame_details.proofs.Spans.{bounded, length-between, rest, bits-rest}
+use Rattle.frame_details.proofs.Rows.{record-read, fixed-bits}
+
+length-read : (b : Body) (d : List Bool) → length (fieldsRead b d) ≡ fieldCount
+unfolding fieldsRead
+length-read b d =
+    let s = spanOf b in
+    let h = right b in
+    let z : List ℕ = replicate fieldCount 0 in
+    let ws = between (s .from) (s .to) (fieldWidths b) in
+    let us = unpack ws (drop (8 * s .before) d) in
+    let n : length us ≡ s .to - s .from =
+    length-unpack ws (drop (8 * s .before) d) ∙ length-between (s .from) (s .to) fieldCount (fieldWidths b) (h .ordered) (h .within) (length-fieldWidths b) in
+    length-append (take (s .from) z) (us ++ drop (s .to) z)
+    ∙ omega (arith, h .ordered, h .within, n, length-append us (drop (s .to) z), length-drop (s .to) z, length-take-le (s .from) z (omega (arith, h .ordered, h .within)))
 
 -- the first four elements of a list replaced
 set-four : (l : List ℕ) (a b c d : ℕ) → 4 ≤ length l → set (set (set (set l 0 a) 1 b) 2 c) 3 d ≡ a ∷ b ∷ c ∷ d ∷ drop 4 l

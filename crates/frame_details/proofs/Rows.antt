@@ -14,7 +14,7 @@ use Rattle.bits.specs.Segment.{widths, freeWidths, fixedHold, free, withFixed, 
 use Rattle.bits.proofs.Bits.{value-take-lt, value-append}
 use Rattle.frame.specs.Body.{row, layout, ownUpdate}
 use Rattle.frame.specs.Span.{spanOf, between}
-use Rattle.frame.specs.Fields.{fieldCount, fields, recordFrom, gather, scatter, fieldWidths, bodyValues, recordOf}
+use Rattle.frame.specs.Fields.{fields, recordFrom, gather, scatter, fieldWidths, bodyValues, recordOf}
 use Rattle.frame.specs.declared.Body.{Body}
 use Rattle.frame.specs.declared.Body.the-variants.{AreaPage, PlacePage, CancelPage, NoInformation}
 use Rattle.frame.specs.declared.Record.{Record}
@@ -28,13 +28,6 @@ record-read AreaPage x p i u d = refl
 record-read PlacePage x p i u d = refl
 record-read CancelPage x p i u d = refl
 record-read NoInformation x p i u d = refl
-
-pub length-read : (b : Body) (d : List Bool) → length (fieldsRead b d) ≡ fieldCount
-unfolding row layout scatter fieldWidths freeWidths unpack spanOf fieldsRead
-length-read AreaPage d = refl
-length-read PlacePage d = refl
-length-read CancelPage d = refl
-length-read NoInformation d = refl
 
 -- the bits of a record, after those fixed at 1 and before the others
 pub details-packed : (b : Body) (r : Record) → let s = spanOf b in

@@ -42,7 +42,7 @@ pub to-field : (b : Body) {s : Span} {n : ℕ} → s ≡ spanOf b → n ≡ fiel
 to-field b e h = omega (arith, bounded b e .within, h)
 
 -- as many elements as there are between two indices
-length-between : (m n k : ℕ) (l : List ℕ) → m ≤ n → n ≤ k → length l ≡ k → length (between m n l) ≡ n - m
+pub length-between : (m n k : ℕ) (l : List ℕ) → m ≤ n → n ≤ k → length l ≡ k → length (between m n l) ≡ n - m
 length-between m n k l h g e = length-take-le (n - m) (drop m l) (omega (arith, length-drop m l))
 
 -- what is left of some bytes after the first k, as a slice from k on is lent

@@ -7,7 +7,7 @@ ghost use lib.ListN.{length, take, drop};
 ghost use Rattle.bits.specs.Bits.{bits};
 ghost use Rattle.bits.specs.Segment.{packSegments};
 ghost use Rattle.frame.specs.Body.{layout};
-ghost use Rattle.frame.specs.Fields.{recordFrom, bodyValues};
+ghost use Rattle.frame.specs.Fields.{bodyValues};
 ghost use Rattle.frame_details.specs.Details.{fieldsRead, onesHold, onesWritten, detailsOf};
 use frame::Body;
 use frame::FIELDS;

@@ -1,7 +1,6 @@
 -- `frame_details::read_fields` meets its contract. Assumes nothing.
 use mathlib.Core.Path.{refl}
 use denote.Ref.{now}
-use native.Mathlib.Omega.{arith}
 use Rattle.frame_details.proofs.Spans.{bounded, from-byte, from-field, to-field, length-widths, room-in, count-in}
 use Rattle.frame_details.proofs.Reading.{fields-found}
 use borrow.Author.Needs.{needs}

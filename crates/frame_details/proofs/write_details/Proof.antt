@@ -1,6 +1,5 @@
 -- `frame_details::write_details` meets its contract. Assumes nothing.
 use mathlib.Core.Path.{refl, ap}
-use native.Mathlib.Omega.{arith}
 use lib.ListN.{length}
 use denote.Ref.{now}
 use Rattle.frame_details.proofs.Spans.{bounded, from-byte, from-field, to-field, length-widths, room-in, count-in}
