@@ -45,7 +45,7 @@ pub fn read_wide(s: &[u8], at: usize, width: usize) -> u64
     numbers::low_bits(bit_parts::eight(s, first) >> (64 - end), width)
 }
 
-// The width bits from bit at on become the low bits of v.
+// The width bits from bit at on become the low bits of v. It requires that they are there, as `read_wide` does, for the same reason.
 pub fn write_field(s: &mut [u8], at: usize, width: usize, v: u64)
     requires { ⌜ (width ≤ 64) × (at + width ≤ 8 * length (now s)) ⌝ }
     ensures { λ _. ⌜ bits (now (s .exit)) ≡ putBits (now (s .entry)) at width v ⌝ }

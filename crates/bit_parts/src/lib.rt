@@ -23,7 +23,7 @@ pub fn read_part(s: &[u8], q: usize, r: usize, n: usize) -> u64
     numbers::low_bits(s[q] as u64 >> (8 - r - n), n)
 }
 
-// The n bits from bit r of byte q on become the low bits of v.
+// The n bits from bit r of byte q on become the low bits of v. It requires what `read_part` does, for the same reason.
 pub fn write_part(s: &mut [u8], q: usize, r: usize, n: usize, v: u64)
     requires { ⌜ (q < length (now s)) × (r + n ≤ 8) ⌝ }
     ensures { λ _. ⌜ bits (now (s .exit)) ≡ putBits (now (s .entry)) (8 * q + r) n v ⌝ }
