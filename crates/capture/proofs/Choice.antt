@@ -1,15 +1,17 @@
 -- A tuner's number, and the tuner that a frame is taken from: what each says of the captures. Assumes nothing.
-use mathlib.Core.Path.{_≡_, refl, sym, _∙_}
+use mathlib.Core.Path.{_≡_, refl, sym, ap, _∙_}
 use mathlib.Core.Bool.{Bool, true, false, cond}
 use mathlib.Core.Logic.{_≢_}
-use mathlib.Core.List.{List}
+use mathlib.Core.List.{List, []}
 use Prim.Native.Nat.{ℕ, _+_, _*_, _≤_, _<_}
+use native.Mathlib.Nat.{zero-add}
 use native.Mathlib.Omega.{arith}
 use lib.Dec.{eqb, leb}
 use lib.ListN.{length, length-take, length-drop}
 use borrow.Author.Tests.{eq-eqb, ne-eqb, eqb-true, eqb-false, le-leb, lt-leb, leb-true}
 use Rattle.frame.specs.Read.{frameRefusal}
-use Rattle.capture.specs.Capture.{partAt, numberAt, sourceOf}
+use Rattle.capture.specs.Capture.{partAt, numberAt, sourceOf, bytesFrom, positionFrom}
+use Rattle.capture.specs.declared.Tuner.{Tuner}
 use Rattle.capture.specs.declared.Tuner.the-variants.{Neither, Main, Spare}
 
 pub number-within : (c : List ℕ) (n : ℕ) → 26 * n + 26 ≤ length c → numberAt c n ≡ frameRefusal (partAt c n)
@@ -79,3 +81,10 @@ spare-within main spare n e = go (choice main spare n)
     go (by-main m) = let q = source-main main spare n m in let z : _≡_ {A = ℕ} 0 1 = cc in absurd (omega arith)
     go (by-spare m s) = accepted-within spare n s
     go (by-neither m s) = let q = source-neither main spare n m s in let z : _≡_ {A = ℕ} 0 1 = cc in absurd (omega arith)
+
+-- where neither has it: an empty part, cut from the main one's start
+pub neither-bytes : {t : Tuner} (main spare : List ℕ) (n : ℕ) → t ≡ Neither → [] ≡ bytesFrom t main spare n
+neither-bytes main spare n e = ap (λ (u : Tuner). bytesFrom u main spare n) (sym e)
+
+pub neither-position : {t : Tuner} (main spare : ℕ × ℕ) (n : ℕ) → t ≡ Neither → (main .0, 0 + main .1) ≡ positionFrom t main spare n
+neither-position main spare n e = ap (λ (k : ℕ). (main .0, k)) (zero-add (main .1)) ∙ ap (λ (u : Tuner). positionFrom u main spare n) (sym e)

@@ -8,7 +8,7 @@ use Rattle.capture.proofs.number.Statement.{statement}
 use Rattle.capture.proofs.number.Tie as tie
 
 part-requires : tie.Need-part-requires
-part-requires c κs = search needs
+part-requires c κs = omega arith
 
 judge-requires : tie.Need-judge-requires
 judge-requires c κs = search needs

@@ -1,5 +1,9 @@
 -- `capture::numbers` meets its contract. Assumes nothing.
+use mathlib.Core.Path.{_≡_, ap₂}
+use Prim.Native.Nat.{ℕ}
+use denote.Ref.{now}
 use borrow.Author.Needs.{needs}
+use Rattle.capture.specs.declared.TunerNumbers.{TunerNumbers}
 use Rattle.capture.proofs.numbers.Statement.{statement}
 use Rattle.capture.proofs.numbers.Tie as tie
 
@@ -10,7 +14,7 @@ number-requires-2 : tie.Need-number-requires-2
 number-requires-2 c κs = search needs
 
 returns : tie.Need-returns
-returns c = rw (c .before .number .ensures, c .number2 .ensures)
+returns c = ap₂ (λ (m s : ℕ). record { main = m; spare = s }) (c .before .number .ensures) (c .number2 .ensures)
 
 pub numbers-spec : {M : Type 1} → statement M
 numbers-spec = tie.close (tie.spec number-requires number-requires-2 returns)
