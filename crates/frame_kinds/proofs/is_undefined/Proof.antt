@@ -1,0 +1,27 @@
+-- `frame_kinds::is_undefined` meets its contract. `search` finds this too; the file is here so that another value is refused by the two that differ. Assumes nothing.
+use mathlib.Core.Path.{sym, ap}
+use borrow.Author.Needs.{needs}
+use Rattle.frame.specs.Identification.{isUndefined}
+use Rattle.frame_kinds.proofs.is_undefined.Statement.{statement}
+use Rattle.frame_kinds.proofs.is_undefined.Tie as tie
+
+enum-told : tie.Need-enum-told
+enum-told c = search needs
+
+returns : tie.Need-returns
+returns c = ap isUndefined (sym (c .enum-told .given .1))
+
+enum-told-2 : tie.Need-enum-told-2
+enum-told-2 c = search needs
+
+returns-2 : tie.Need-returns-2
+returns-2 c = ap isUndefined (sym (c .enum-told2 .given .1))
+
+enum-told-3 : tie.Need-enum-told-3
+enum-told-3 c = search needs
+
+returns-3 : tie.Need-returns-3
+returns-3 c = ap isUndefined (sym (c .enum-told3 .given .1))
+
+pub is-undefined-spec : {M : Type 1} → statement M
+is-undefined-spec = tie.close (tie.spec enum-told enum-told-2 enum-told-3 returns returns-2 returns-3)
