@@ -6,13 +6,14 @@ ghost use mathlib.Core.Path.{_≡_};
 ghost use Prim.Native.Nat.{_+_, _*_, _<_, _≤_};
 ghost use lib.ListN.{length, take, drop};
 ghost use Rattle.bits.specs.Bits.{value, bits, digit};
+ghost use Rattle.gf2.specs.Polynomial.{zeros};
 ghost use Rattle.dsc.specs.Code.{dist};
 ghost use Rattle.dsc.specs.Repair.{protected, wordBytes, refusedWith, repairedTo};
 ghost use Rattle.dsc_bits.specs.Words.{at, padded};
 
-// 187 bits, to be filled. The literal stands in a function of its own so that no loop's proof carries its elements.
+// 187 zeros, to be filled. The literal stands in a function of its own so that no loop's proof carries its elements.
 pub fn clear() -> [bool; 187]
-    ensures { λ r. ⌜ length r ≡ 187 ⌝ }
+    ensures { λ r. ⌜ r ≡ zeros 187 ⌝ }
 {
     [false; 187]
 }

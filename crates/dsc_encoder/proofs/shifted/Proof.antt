@@ -1,10 +1,11 @@
 -- `dsc_encoder::shifted` meets its contract. Assumes nothing.
 use borrow.Author.Needs.{needs}
+use mathlib.Core.Path.{ap}
 use mathlib.Core.Bool.{false}
 use mathlib.Core.List.{_++_}
 use Prim.Native.Nat.{_-_}
 use native.Mathlib.Omega.{arith}
-use lib.ListN.{take, length-append}
+use lib.ListN.{length, take, length-append}
 use lib.Seq.{length-take-le}
 use Rattle.gf2.specs.Polynomial.{zeros}
 use Rattle.dsc_bits.specs.Words.{at}
@@ -22,7 +23,7 @@ clear-requires : tie.Need-clear-requires Inv-loop μ-loop
 clear-requires c κs = search needs
 
 loop-holds : tie.Need-loop-holds Inv-loop μ-loop
-loop-holds c = filled-none (omega arith)
+loop-holds c = filled-none (ap length (c .clear .ensures))
 
 shifted-bit-requires : tie.Need-shifted-bit-requires Inv-loop μ-loop
 shifted-bit-requires c κs = search needs

@@ -26,7 +26,7 @@ clear-requires : tie.Need-clear-requires Inv-loop μ-loop
 clear-requires c κs = search needs
 
 loop-holds : tie.Need-loop-holds Inv-loop μ-loop
-loop-holds c = (filled-none (omega arith), c .before .before .before .before .pre .2, refl)
+loop-holds c = (filled-none (ap length (c .clear .ensures)), c .before .before .before .before .pre .2, refl)
 
 shared-slice-read-decide : tie.Need-shared-slice-read-decide Inv-loop μ-loop
 shared-slice-read-decide c = search needs
