@@ -1,9 +1,11 @@
 -- `dsc_bits::received` meets its contract. Assumes nothing.
 use borrow.Author.Needs.{needs}
-use mathlib.Core.Path.{sym, _∙_}
+use mathlib.Core.Path.{_≡_, sym, ap, _∙_}
 use mathlib.Core.Bool.{false}
-use Prim.Native.Nat.{_-_}
+use Prim.Native.Nat.{_+_, _-_}
 use native.Mathlib.Omega.{arith}
+use lib.ListN.{length}
+use Rattle.bits.specs.Bits.{bits}
 use Rattle.dsc.specs.Repair.{protected}
 use Rattle.dsc_bits.specs.Words.{at}
 use Rattle.dsc.proofs.Answers.{length-protected}
@@ -22,7 +24,7 @@ clear-requires : tie.Need-clear-requires Inv-loop μ-loop
 clear-requires c κs = search needs
 
 loop-holds : tie.Need-loop-holds Inv-loop μ-loop
-loop-holds c = filled-none (omega arith)
+loop-holds c = filled-none (ap length (c .clear .ensures))
 
 add-frame-bit : tie.Need-add-frame-bit Inv-loop μ-loop
 add-frame-bit c = search needs
@@ -43,7 +45,9 @@ loop-again : tie.Need-loop-again Inv-loop μ-loop
 loop-again c =
     let a = c .before .before in
     let f = a .before .before .before .args .f .now in
-    filled-next (a .loop .inv) (omega arith) (c .frame-bit .ensures ∙ sym (protected-at f (a .loop .n) (omega arith)))
+    let n = a .loop .n in
+    let read : c .frame-bit .result ≡ at (bits f) (17 + n) = c .frame-bit .ensures in
+    filled-next (a .loop .inv) (omega arith) (read ∙ sym (protected-at f n (omega arith)))
 
 returns : tie.Need-returns Inv-loop μ-loop
 returns c =
