@@ -2,20 +2,41 @@
 use mathlib.Core.Path.{_≡_, refl, sym, ap, _∙_, subst}
 use mathlib.Core.Bool.{Bool, true, false, cond}
 use mathlib.Core.Logic.{_≢_}
-use mathlib.Core.List.{List, _++_}
+use mathlib.Core.List.{List, [], _∷_, _++_}
 use Prim.Native.Nat.{ℕ, _+_, _≤_}
 use native.Mathlib.Omega.{arith}
 use lib.Dec.{eqb}
-use lib.ListN.{length, take, drop, length-append, length-drop}
+use lib.ListN.{length, take, drop, replicate, length-append, length-drop}
 use lib.Seq.{length-take-le, drop-at, take-at}
 use borrow.Author.Tests.{eq-eqb, ne-eqb, eqb-true, eqb-false}
-use Rattle.bits.specs.Bits.{bits}
+use Rattle.bits.specs.Bits.{digit, odd, value, bitsOf, bits, bytes}
 use Rattle.bits.proofs.Bits.{length-bits, length-bytes, bits-bytes}
 use Rattle.gf2.specs.Polynomial.{zeros}
 use Rattle.dsc.specs.Code.{CodeWord, dist}
 use Rattle.dsc.specs.Repair.{protected, wordBytes, Decoded, corrected, beyond, decode, repairedTo, refusedWith, answerTo, numberOf, repairOf, Repairs}
 use Rattle.dsc.specs.declared.Answer.{Answer}
 use Rattle.dsc.proofs.Decoding.{decode-found, decode-none, Nearest, one, none, nearest}
+
+-- ---- one frame, bit by bit: of its 208 bits only B17 is set, the second bit of its third byte, and B203, the fourth of its last
+
+ends : List ℕ
+ends = 0 ∷ 0 ∷ 64 ∷ (replicate 22 0 ++ (16 ∷ []))
+
+firstAndLast : List Bool
+firstAndLast = true ∷ (zeros 185 ++ (true ∷ []))
+
+ends-protected : protected ends ≡ firstAndLast
+unfolding ends firstAndLast protected bits bitsOf odd
+ends-protected = refl
+
+ends-bytes : wordBytes firstAndLast ≡ ends
+unfolding ends firstAndLast wordBytes bytes value digit
+ends-bytes = refl
+
+-- in the 26 bytes of a refusal no bit is set
+refused-bits : (n : ℕ) → bits (refusedWith n .word) ≡ zeros 208
+unfolding bits bitsOf odd
+refused-bits n = refl
 
 -- ---- the protected part
 
