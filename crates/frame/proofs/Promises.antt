@@ -1,6 +1,6 @@
 -- The promises hold. Assumes nothing.
 use mathlib.Core.Path.{_≡_, refl, sym, ap, ap₂, _∙_, subst}
-use mathlib.Core.Bool.{Bool, true, false, not}
+use mathlib.Core.Bool.{Bool, true, false, not, cond}
 use mathlib.Core.Logic.{_≢_}
 use mathlib.Core.List.{List, [], _++_, append-assoc}
 use Prim.Native.Nat.{ℕ, _+_, _≤_, _<_}
@@ -8,7 +8,7 @@ use native.Mathlib.Omega.{arith}
 use lib.Dec.{eqb}
 use lib.ListN.{length, take, drop, getD, length-append, length-drop}
 use lib.Seq.{take-all, take-at, drop-at, length-take-le}
-use borrow.Author.Tests.{eq-eqb, ne-eqb, eqb-true, eqb-false}
+use borrow.Author.Tests.{ne-eqb, eqb-true, eqb-false}
 use Rattle.bits.specs.Bits.{odd, bitsOf, bits, bytes, Bytes}
 use Rattle.bits.specs.Field.{fieldAt}
 use Rattle.bits.proofs.Bits.{value-take-lt, length-bytes, bits-bytes, bits-inj, bytes-Bytes}
@@ -275,7 +275,9 @@ number-told f = sym (judged f .0)
 
 written : (r : Record) (s : List ℕ) → Legal r → length s ≡ 26 → writeOf r s ≡ frameOf r
 unfolding writeOf writeNumber
-written r s l h = rw (eq-eqb (length s) 26 h, l)
+written r s l h =
+    let none : writeNumber r (length s) ≡ 0 = ap (writeNumber r) h ∙ l in
+    ap (λ n. cond (eqb n 0) (frameOf r) s) none
 
 unchanged : (r : Record) (s : List ℕ) → writeNumber r (length s) ≢ 0 → writeOf r s ≡ s
 unfolding writeOf
