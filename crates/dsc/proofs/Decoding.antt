@@ -130,18 +130,18 @@ first-code-word P (w ∷ ws) c a e = go (isCodeWord w) refl e (first-code-word P
 -- ---- the laws of decode
 
 module _ (r : List Bool) (h : length r ≡ 187) where
+  pub decode-none : ((c : List Bool) → CodeWord c → dist r c ≤ 8 → ⊥) → decode r ≡ beyond
+  unfolding decode
+  decode-none none =
+      first-none (ball 8 r)
+      (all-weaker (Within 8 r) (λ w. isCodeWord w ≡ true → ⊥) (ball 8 r) (λ w n t. none w (tested-word w (n .0 ∙ h) t) (n .1)) (ball-within 8 r))
+
   pub decode-found : (c : List Bool) → CodeWord c → dist r c ≤ 8 → decode r ≡ corrected c
   unfolding decode
   decode-found c k d =
       first-found c (ball 8 r) (word-tested c k) (in-ball 8 r c (length-word c k ∙ sym h, d))
       (all-weaker (Within 8 r) (λ w. isCodeWord w ≡ true → w ≡ c) (ball 8 r)
       (λ w n t. only-one w c (tested-word w (n .0 ∙ h) t) k r h (n .1) d) (ball-within 8 r))
-
-  pub decode-none : ((c : List Bool) → CodeWord c → dist r c ≤ 8 → ⊥) → decode r ≡ beyond
-  unfolding decode
-  decode-none none =
-      first-none (ball 8 r)
-      (all-weaker (Within 8 r) (λ w. isCodeWord w ≡ true → ⊥) (ball 8 r) (λ w n t. none w (tested-word w (n .0 ∙ h) t) (n .1)) (ball-within 8 r))
 
 -- ---- so there is a code word within eight places, or there is none
 

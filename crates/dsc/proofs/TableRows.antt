@@ -36,14 +36,14 @@ rows-at p i h = getD-map (λ d. (p + d) % 273) differences i (omega (arith, leng
 -- ---- the table's rows
 
 module _ (t : List ℕ) (k : CheckTable t) (s : ℕ) (hs : s < 273) where
+  row-place : (i : ℕ) → i < 17 → getD (rowAt t s) i 0 ≡ getD (row s) i 0
+  row-place i h = getD-take 17 (drop (s * 17) t) i 0 h ∙ getD-drop (s * 17) t i 0 ∙ k .rule s i hs h ∙ sym (row-at s i h)
+
   length-rowAt : length (rowAt t s) ≡ 17
   length-rowAt = length-take-le 17 (drop (s * 17) t) (omega (arith, length-drop (s * 17) t, k .size))
 
   pub table-row : rowAt t s ≡ row s
-  table-row = ext-getD 0 (rowAt t s) (row s) (length-rowAt ∙ sym (length-row s)) (λ i h. place i (omega (arith, length-rowAt)))
-    where
-      place : (i : ℕ) → i < 17 → getD (rowAt t s) i 0 ≡ getD (row s) i 0
-      place i h = getD-take 17 (drop (s * 17) t) i 0 h ∙ getD-drop (s * 17) t i 0 ∙ k .rule s i hs h ∙ sym (row-at s i h)
+  table-row = ext-getD 0 (rowAt t s) (row s) (length-rowAt ∙ sym (length-row s)) (λ i h. row-place i (omega (arith, length-rowAt)))
 
 -- row s is row 0 moved on by s
 pub row-moved : (s : ℕ) → s < 273 → row s ≡ map (λ q. (q + s) % 273) (row 0)
