@@ -1,9 +1,7 @@
 -- The numbers of states, events and tuners. Assumes nothing.
 use mathlib.Core.Path.{_≡_, _∙_, sym, ap}
-use mathlib.Core.Bool.{_&&_}
 use Prim.Native.Nat.{ℕ, _-_, _≤_, _<_}
 use native.Mathlib.Omega.{arith}
-use lib.Dec.{leb}
 use borrow.Author.Tests.{le-leb, lt-leb}
 use Rattle.follower.specs.Follow.{eventNumber}
 use Rattle.follower_events.specs.declared.Kind.{Kind}

@@ -2,7 +2,7 @@
 use mathlib.Core.Bool.{cond, _&&_}
 use mathlib.Core.List.{List}
 use Prim.Native.Nat.{ℕ, _+_, _-_, _*_, _%_}
-use lib.Dec.{eqb, leb}
+use lib.Dec.{leb}
 use Rattle.follower.specs.Follow.{stepOf, eventNumber}
 use Rattle.follower_events.specs.declared.Kind.the-variants.{Real, Test}
 use Rattle.follower_events.specs.declared.Event.{Event}

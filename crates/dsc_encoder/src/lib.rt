@@ -4,7 +4,7 @@ ghost use mathlib.Core.List.{_++_};
 ghost use Prim.Native.Nat.{_+_, _<_, _≤_};
 ghost use lib.ListN.{length, take, drop};
 ghost use Rattle.gf2.specs.Polynomial.{zeros, add, remainder};
-ghost use Rattle.dsc.specs.Code.{generatorLow, parityOf};
+ghost use Rattle.dsc.specs.Code.{parityOf};
 ghost use Rattle.dsc_bits.specs.Words.{at};
 
 // g, added at the front of v.

@@ -5,15 +5,15 @@ use mathlib.Core.List.{List, [], _∷_, _++_, append-assoc, append-nil}
 use Prim.Native.Nat.{ℕ, _+_, _-_, _*_, _/_, _%_, _^_, _≤_, _<_}
 use native.Mathlib.Nat.{div-one}
 use native.Mathlib.Omega.{arith}
-use lib.Bits.{bitOr, or-zero-l}
+use lib.Bits.{bitOr}
 use lib.ListN.{length, getD, set, take, drop, length-append, drop-of-length-le}
 use lib.Pow as pow
-use lib.Pow.{shl-exact, shl-shr, shr-shr}
+use lib.Pow.{shl-shr, shr-shr}
 use lib.Seq.{sets, sets-eq, take-add, drop-drop}
-use Rattle.bits.specs.Bits.{digit, value, bitsOf, bits, bytes, Bytes}
+use Rattle.bits.specs.Bits.{digit, value, bitsOf, bits, bytes}
 use Rattle.bits.specs.Field.{fieldAt}
 use Rattle.bits.proofs.Bits.{length-bitsOf, length-bytes, value-bitsOf, value-take-lt, bitsOf-add, take-drop-bitsOf, bytes-append}
-use Rattle.bits.proofs.Field.{bits-of-field, field-byte}
+use Rattle.bits.proofs.Field.{bits-of-field}
 use Rattle.bits.proofs.Slices.{sets-append}
 use Rattle.gf2.specs.Polynomial.{zeros}
 use Rattle.lanes.proofs.Number.{bitsOf-wider, bitsOf-low, bitsOf-shl, bitsOf-join}

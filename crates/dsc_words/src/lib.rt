@@ -5,7 +5,6 @@ ghost use Prim.Native.Nat.{_+_, _*_, _%_, _^_, _≤_};
 ghost use lib.ListN.{length};
 ghost use lib.Seq.{sets};
 ghost use Rattle.bits.specs.Bits.{bitsOf, bytes};
-ghost use Rattle.bits.specs.Field.{fieldAt};
 ghost use Rattle.gf2.specs.Polynomial.{add};
 ghost use Rattle.dsc.specs.Repair.{protected, wordBytes};
 ghost use Rattle.dsc_words.specs.Words.{held, Fits};

@@ -4,7 +4,7 @@ use mathlib.Core.Bool.{Bool, cond, not, _||_}
 use mathlib.Core.List.{List, [], _∷_, _++_}
 use Prim.Native.Nat.{ℕ}
 use lib.Dec.{eqb}
-use lib.ListN.{length, take, drop, replicate}
+use lib.ListN.{length, take, drop}
 use Rattle.bits.specs.Bits.{bits, bytes}
 use Rattle.bits.specs.Segment.{packSegments, unpackSegments}
 use Rattle.bits.specs.Refusal.{firstRefusal}

@@ -1,5 +1,5 @@
 -- The layout of a header (document 01, "The cable header"; notice 311, source document 002): 1,504 bits with the CRC. Assumes nothing.
-use mathlib.Core.List.{List, [], _∷_, _++_}
+use mathlib.Core.List.{List, _∷_, _++_}
 use lib.ListN.{replicate}
 use Rattle.bits.specs.Segment.{Segment, field, fixedOnes}
 

@@ -1,6 +1,6 @@
 // A header's fields, out of the order of the layout and into it. Nothing here is an entry point of the box.
 ghost use mathlib.Core.Path.{_≡_};
-ghost use Rattle.header.specs.Fields.{frontFields, frontOf, extensionFields, extensionOf};
+ghost use Rattle.header.specs.Fields.{frontFields, frontOf, extensionOf};
 use header::Extension;
 use header::Front;
 

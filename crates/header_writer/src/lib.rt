@@ -2,7 +2,7 @@
 ghost use mathlib.Core.Path.{_≡_};
 ghost use lib.ListN.{length, take, drop};
 ghost use mathlib.Core.List.{_++_};
-ghost use Rattle.bits.specs.Bits.{bits, bytes};
+ghost use Rattle.bits.specs.Bits.{bytes};
 ghost use Rattle.bits.specs.Segment.{packSegments};
 ghost use Rattle.header.specs.Layout.{frontLayout, extensionLayout};
 ghost use Rattle.header.specs.Fields.{frontFields, extensionFields};

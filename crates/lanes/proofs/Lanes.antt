@@ -1,7 +1,6 @@
 -- The lanes of what the machine computes: sums, shifts, cuts. Assumes nothing.
 use mathlib.Core.Path.{_≡_, refl, sym, ap, ap₂, _∙_}
 use mathlib.Core.Bool.{Bool, true, false, true≢false, _&&_, _||_}
-use mathlib.Core.List.{List, [], _∷_}
 use Prim.Native.Nat.{ℕ, zero, suc, _+_, _-_, _*_, _/_, _%_, _^_, _≤_, _<_}
 use native.Mathlib.Nat.{zero-div, mul-assoc, mul-mod-left, div-eq-of-lt, lt-of-lt-of-le, mod-eq-of-lt, zero-mul}
 use native.Mathlib.Omega.{arith}

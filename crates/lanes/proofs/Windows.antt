@@ -1,19 +1,17 @@
 -- Windows: 64 bits of a row of words from any bit on, as two shifts give them; sums and counts of windows. Assumes nothing.
-use mathlib.Core.Path.{_≡_, refl, sym, ap, ap₂, _∙_}
+use mathlib.Core.Path.{_≡_, refl, ap, ap₂, _∙_}
 use mathlib.Core.Bool.{Bool, true, false, cond, _||_}
-use mathlib.Core.List.{List, [], _∷_, map}
+use mathlib.Core.List.{List, [], _∷_}
 use mathlib.Core.Logic.{_≢_}
 use Prim.Native.Nat.{ℕ, zero, suc, _+_, _-_, _*_, _/_, _%_, _^_, _≤_, _<_}
 use native.Mathlib.Omega.{arith}
 use lib.Bits.{bitXor, bitOr}
 use lib.Dec.{eqb, ltb}
-use lib.ListN.{length, getD}
+use lib.ListN.{getD}
 use lib.Pow.{pow-pos}
 use borrow.Author.Tests.{ltb-true, ltb-false, eqb-true, eqb-false}
-use Rattle.gf2.specs.Polynomial.{_⊕_}
-use Rattle.gf2.proofs.Sum.{xor-false}
 use Rattle.lanes.specs.Lane.{lane, bitAt}
-use Rattle.lanes.proofs.Lanes.{lane-or, lane-shr, lane-shl-high, lane-shl-low, lane-past, lane-xor}
+use Rattle.lanes.proofs.Lanes.{lane-or, lane-shr, lane-shl-high, lane-shl-low, lane-past}
 
 -- every word has 64 bits
 abbrev pub Fit : List ℕ → Type 0

@@ -2,13 +2,13 @@
 use mathlib.Core.Path.{_≡_, refl, sym, ap, ap₂, subst, _∙_}
 use mathlib.Core.Bool.{Bool, true, false, cond, _&&_, false≢true, and-assoc, and-true}
 use mathlib.Core.List.{List, [], _∷_, _++_, append-nil, append-assoc}
-use Prim.Native.Nat.{ℕ, zero, suc, _+_, _-_, _*_, _^_, _<_, _≤_, min}
+use Prim.Native.Nat.{ℕ, suc, _+_, _-_, _*_, _^_, _<_, _≤_}
 use native.Mathlib.Numerals.{add-one}
 use native.Mathlib.Omega.{arith}
 use lib.Dec.{eqb}
 use lib.ListN.{length, getD, take, drop, set, length-set, length-append}
-use lib.Seq.{paste, length-take-le, take-at, drop-cons, drop-length, take-suc-set, take-all, drop-drop, append-snoc, take-length}
-use borrow.Author.Tests.{eq-eqb, eqb-true}
+use lib.Seq.{paste, length-take-le, take-at, drop-cons, drop-length, take-suc-set, take-all, drop-drop, append-snoc}
+use borrow.Author.Tests.{eq-eqb}
 use Rattle.bits.specs.Bits.{value, bitsOf, bits}
 use Rattle.bits.specs.Field.{putOf}
 use Rattle.bits.specs.Layout.{pack, unpack}

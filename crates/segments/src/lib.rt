@@ -3,13 +3,11 @@
 ghost use mathlib.Core.Path.{_≡_};
 ghost use mathlib.Core.Bool.{_&&_};
 ghost use mathlib.Core.List.{_++_};
-ghost use Prim.Native.Nat.{_+_, _*_, _<_, _≤_};
-ghost use lib.Dec.{eqb};
-ghost use lib.ListN.{length, drop, set};
+ghost use Prim.Native.Nat.{_+_, _<_, _≤_};
+ghost use lib.ListN.{length, drop};
 ghost use Rattle.bits.specs.Bits.{bits};
-ghost use Rattle.bits.specs.Field.{fieldAt, putBits};
 ghost use Rattle.bits.specs.Layout.{sum, Layout};
-ghost use Rattle.bits.specs.Segment.{segments, freeWidths, packSegments, unpackSegments, fixedBitsHold, segment};
+ghost use Rattle.bits.specs.Segment.{segments, freeWidths, packSegments, unpackSegments, fixedBitsHold};
 ghost use Rattle.segments.specs.Step.{stored, nextPlace, segmentValue};
 
 // A segment that holds v: a field's value goes to place i, and the place after it is answered; a fixed segment leaves both as they are.

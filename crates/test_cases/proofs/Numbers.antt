@@ -1,12 +1,12 @@
 -- Arrays that are filled from the front, and the numbers that bytes make up. Assumes nothing.
 use mathlib.Core.Path.{_≡_, refl, sym, ap, _∙_}
 use mathlib.Core.List.{List, [], _∷_, _++_}
-use Prim.Native.Nat.{ℕ, zero, suc, _+_, _*_, _≤_, _<_}
+use Prim.Native.Nat.{ℕ, zero, suc, _+_, _*_, _<_}
 use native.Mathlib.Nat.{mul-suc}
 use native.Mathlib.Numerals.{add-one}
 use native.Mathlib.Omega.{arith}
 use lib.ListN.{length, getD, take, drop, set, replicate, length-replicate, replicate-append-replicate}
-use lib.Seq.{drop-cons, drop-drop, set-at, append-snoc, length-take-le, take-all}
+use lib.Seq.{drop-cons, drop-drop, set-at, append-snoc, take-all}
 use borrow.Author.Tests.{le-leb}
 use Rattle.bits.specs.Bits.{value, bits}
 use Rattle.bits.specs.Field.{getOf}

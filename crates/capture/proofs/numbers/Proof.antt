@@ -1,9 +1,7 @@
 -- `capture::numbers` meets its contract. Assumes nothing.
-use mathlib.Core.Path.{_≡_, ap₂}
+use mathlib.Core.Path.{ap₂}
 use Prim.Native.Nat.{ℕ}
-use denote.Ref.{now}
 use borrow.Author.Needs.{needs}
-use Rattle.capture.specs.declared.TunerNumbers.{TunerNumbers}
 use Rattle.capture.proofs.numbers.Statement.{statement}
 use Rattle.capture.proofs.numbers.Tie as tie
 

@@ -1,5 +1,5 @@
 -- `dsc_codec::repair_into` meets its contract. Assumes nothing.
-use mathlib.Core.Path.{refl, sym, _∙_}
+use mathlib.Core.Path.{sym}
 use borrow.Author.Needs.{needs}
 use Rattle.dsc.proofs.Answers.{repair-short}
 use Rattle.dsc_words.specs.Words.{held}

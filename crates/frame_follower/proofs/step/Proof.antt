@@ -1,7 +1,6 @@
 -- `frame_follower::step` meets its contract. Assumes nothing.
-use mathlib.Core.Path.{_∙_, ap}
 use borrow.Author.Needs.{needs}
-use Rattle.follower.specs.Follow.{seenOf, stepSeen, stepOf}
+use Rattle.follower.specs.Follow.{stepOf}
 use Rattle.frame_follower.proofs.step.Statement.{statement}
 use Rattle.frame_follower.proofs.step.Tie as tie
 

@@ -1,4 +1,3 @@
-use mathlib.Core.Path.{sym}
 use native.Mathlib.Omega.{arith}
 use Rattle.numbers.proofs.smaller.Statement.{statement}
 use Rattle.numbers.proofs.smaller.Tie as tie

@@ -10,7 +10,6 @@ use lib.Seq.{take-length}
 use Rattle.bits.specs.Bits.{bits}
 use Rattle.bits.specs.Layout.{sum}
 use Rattle.bits.specs.Segment.{segments, packSegments}
-use Rattle.bits.proofs.Field.{length-putOf}
 use Rattle.bits.proofs.Layouts.{sum-take, sum-next}
 use Rattle.segments.proofs.Turns.{WrittenSoFar, write-room, write-turn, write-end, put-turn}
 use Rattle.segments.proofs.write_fields.Statement.{statement}

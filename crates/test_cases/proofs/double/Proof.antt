@@ -4,7 +4,7 @@ use mathlib.Core.Bool.{Bool}
 use mathlib.Core.Logic.{_≢_}
 use Prim.Native.Nat.{ℕ, _/_, _%_}
 use lib.Dec.{leb}
-use lib.Ieee.{Float, nan, binary64, top, ofFields, ofBits, nanBits}
+use lib.Ieee.{nan, binary64, top, ofFields, ofBits, nanBits}
 use borrow.Author.Needs.{needs}
 use borrow.Author.Tests.{eq-eqb, ne-eqb}
 use Rattle.test_cases.proofs.double.Statement.{statement}
