@@ -16,8 +16,8 @@ fn header_from(v: &[u64]) -> Header
     Header { front, extension }
 }
 
-// The fields of a header.
-fn put_fields(header: Header, out: &mut [u64])
+// The fields of a header. It requires room for them: its callers have tested that, or lend an array.
+pub fn put_fields(header: Header, out: &mut [u64])
     requires { ⌜ length (now out) ≡ 145 ⌝ }
     ensures { λ _. ⌜ now (out .exit) ≡ headerValues header ⌝ }
 {

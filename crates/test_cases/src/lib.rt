@@ -4,8 +4,8 @@
 // of the first slice; and the runs of the second slice, which is lent to be written. A run is two bytes: how often a byte stands in a row, and the byte. A slice of numbers
 // has eight bytes for each, most significant first; a double is the number that its bits make up.
 //
-// An answer is a line: the case's number, a status, and the lent slice as it stands after the call, bytes after a colon, numbers after a space each, all hexadecimal but the
-// case's number. What stands n times in a row is written once, with `*n`, and of bytes a point.
+// An answer is a line: the case's number, what the operation tells on its way, a status, and the lent slice as it stands after the call, bytes after a colon, numbers after a
+// space each, all hexadecimal but the case's number. What stands n times in a row in the slice is written once, with `*n`, and of bytes a point.
 ghost use Prim.Native.Nat.{_+_, _/_, _≤_, _<_, min};
 ghost use mathlib.Core.Path.{_≡_};
 ghost use mathlib.Core.Bool.{true, false};

@@ -1,4 +1,5 @@
-// Runs test cases of the checksums and of the code: see `test_cases`. The cases, and what they must answer, come from rust/vectors.
+// Runs test cases of the checksums, of the code and of fields of bits: see `test_cases`. The cases, and what they must answer, come from rust/vectors.
+use dsc::Outcome;
 use test_cases::Case;
 
 // The CRC-10 from a bit on, of no bit, of one, and so on; and of all of them.
@@ -22,7 +23,31 @@ fn encode(frame: &mut [u8]) -> u64 {
     0
 }
 
-fn answer(operation: u8, a: usize, b: usize, input: &[u8], lent: &mut [u8]) -> u64 {
+fn put_word(word: &[u8], lent: &mut [u8]) {
+    if word.len() <= lent.len() {
+        bytes::copy(word, lent);
+    }
+}
+
+// The repair that hands its word over by value: the word goes into the lent bytes, on a refusal too.
+fn repair_by_value(frame: &[u8], lent: &mut [u8]) -> u64 {
+    let answer = dsc_codec::repair(frame);
+    let word = answer.word;
+    put_word(&word, lent);
+    let outcome = answer.outcome;
+    match outcome {
+        Outcome::Repaired(places) => 256 * places as u64,
+        Outcome::Refused(number) => number as u64,
+    }
+}
+
+fn put(s: &mut [u8], at: usize, width: usize, value: u64) -> u64 {
+    bit_fields::put(s, at, width, value);
+    0
+}
+
+fn answer(case: Case, a: usize, b: usize, input: &[u8], lent: &mut [u8]) -> u64 {
+    let operation = case.operation;
     match operation {
         0 => crc10::crc10(input, a, b) as u64,
         1 => crc10_counts(input, a, b),
@@ -30,21 +55,18 @@ fn answer(operation: u8, a: usize, b: usize, input: &[u8], lent: &mut [u8]) -> u
         3 => crc32_lengths(input),
         4 => encode(lent),
         5 => abi_repair::repair(input, lent) as u64,
-        _ => abi_repair::repair_register(input, lent) as u64,
+        6 => abi_repair::repair_register(input, lent) as u64,
+        7 => repair_by_value(input, lent),
+        8 => bit_fields::get(input, a, b),
+        _ => put(lent, a, b, case.c),
     }
 }
 
 fn run(case: Case, input: &[u8], lent: &mut [u8]) -> bool {
-    if 6 < case.operation {
+    if 9 < case.operation {
         return test_cases::wrong().found;
     }
-    test_cases::hex(answer(
-        case.operation,
-        case.a as usize,
-        case.b as usize,
-        input,
-        lent,
-    ));
+    test_cases::hex(answer(case, case.a as usize, case.b as usize, input, lent));
     test_cases::end_bytes(lent)
 }
 

@@ -18,23 +18,24 @@ fn no_fields() -> [u64; 145] {
     [0; 145]
 }
 
-// The header, read and written, is the same again.
-fn comes_back(header: &[u8]) -> bool {
-    let mut fields = no_fields();
-    abi_header::header_read(header, &mut fields);
+// The fields, written, are that header.
+fn comes_back(fields: &[u64], header: &[u8]) -> bool {
     let mut again = zeros();
-    abi_header::header_write(&fields, &mut again);
+    abi_header::header_write(fields, &mut again);
     check::same(header, &again)
 }
 
-// The refusal of a header; 255 where it is accepted and does not come back.
+// The refusal of a header: 254 where the reader answers another number, 255 where it is accepted and does not come back.
 fn refusal(header: &[u8]) -> u64 {
     let number = header_reader::refusal(header) as u64;
-    if number == 0 && !comes_back(header) {
-        255
-    } else {
-        number
+    let mut fields = no_fields();
+    if abi_header::header_read(header, &mut fields) as u64 != number {
+        return 254;
     }
+    if number == 0 && !comes_back(&fields, header) {
+        return 255;
+    }
+    number
 }
 
 // Turns bit k over and, if asked, makes the CRC again.
@@ -58,24 +59,26 @@ fn each_bit(header: &mut [u8], end: u64, again: u64) -> u64 {
 
 // ---- the operations
 
+fn header_write(numbers: &[u8], lent: &mut [u8]) -> u64 {
+    let mut fields = test_cases::no_values();
+    let n = test_cases::values(numbers, &mut fields);
+    abi_header::header_write(&fields[0..n], lent) as u64
+}
+
 // The status of an operation that lends bytes.
-fn status_of(case: Case, input: &[u8], fields: &[u64], lent: &mut [u8]) -> u64 {
+fn status_of(case: Case, input: &[u8], lent: &mut [u8]) -> u64 {
     let operation = case.operation;
     match operation {
         0 => header_reader::refusal(input) as u64,
-        1 => abi_header::header_write(fields, lent) as u64,
+        1 => header_write(input, lent),
         2 => seal(lent),
-        3 => abi_laying::lay_in(lent, input) as u64,
-        4 => abi_laying::take_out(lent) as u64,
         _ => each_bit(lent, case.a, case.b),
     }
 }
 
 // Answers it.
 fn answer(case: Case, input: &[u8], lent: &mut [u8]) -> bool {
-    let mut fields = test_cases::no_values();
-    let n = test_cases::values(input, &mut fields);
-    test_cases::hex(status_of(case, input, &fields[0..n], lent));
+    test_cases::hex(status_of(case, input, lent));
     test_cases::end_bytes(lent)
 }
 
@@ -91,12 +94,24 @@ fn read(header: &[u8], bytes: &[u8]) -> bool {
     header_read(header, &mut lent[0..n])
 }
 
+// Answers the reader that hands the header over by value: all its fields, on a refusal too.
+fn read_by_value(header: &[u8]) -> bool {
+    let reading = header_reader::read(header);
+    test_cases::hex(reading.number as u64);
+    let mut fields = no_fields();
+    abi_header::put_fields(reading.header, &mut fields);
+    test_cases::end_values(&fields)
+}
+
 fn run(case: Case, input: &[u8], lent: &mut [u8]) -> bool {
-    if case.operation < 6 {
+    if case.operation < 4 {
         return answer(case, input, lent);
     }
-    if case.operation == 6 {
+    if case.operation == 4 {
         return read(input, lent);
+    }
+    if case.operation == 5 {
+        return read_by_value(input);
     }
     test_cases::wrong().found
 }

@@ -1,6 +1,8 @@
 //! Frames and records, reports and places.
 use crate::{hex, numbers, rows, status, Call, Case, Lends, Operation};
-use reference::frame::{self, Record, DEPTH, IDENTIFICATION, LATITUDE, LONGITUDE, SOUTH};
+use reference::frame::{
+    self, Record, BROADCASTER, DEPTH, IDENTIFICATION, LATITUDE, LONGITUDE, SOUTH, UPDATE,
+};
 use reference::place::{self, Place, Report};
 
 pub(crate) const OPERATIONS: [Operation; 8] = [
@@ -154,6 +156,8 @@ fn written() -> Vec<Case> {
     let mut cases = vec![];
     for (body, base) in bases() {
         cases.push(write(format!("{body}: the record itself"), &base));
+        // what stood in the buffer shows in no bit of the frame
+        cases.push(write(format!("{body}: the record itself, over zeros"), &base).lent(&[0; 26]));
         for (field, width) in WIDTHS.into_iter().enumerate() {
             let past = 1u64 << width;
             for (value, what) in [
@@ -179,10 +183,10 @@ fn written() -> Vec<Case> {
         write(format!("place, {name} {value}"), &with(place, field, value))
     };
     cases.extend([
-        limit("latitude", LATITUDE, 900).published("document 01, example 8", "0:.."),
-        limit("latitude", LATITUDE, 901).published("document 01, example 8", "9:ff*26."),
+        limit("latitude", LATITUDE, 900).known("document 01, example 8", "0:.."),
+        limit("latitude", LATITUDE, 901).known("document 01, example 8", "9:ff*26."),
         limit("longitude", LONGITUDE, 1800),
-        limit("longitude", LONGITUDE, 1801).published("document 01, house limits", "9:ff*26."),
+        limit("longitude", LONGITUDE, 1801).known("document 01, house limits", "9:ff*26."),
     ]);
     for n in [0, 25, 27] {
         cases.push(write(format!("place, a buffer of {n}"), &place).lent(&vec![0xFF; n]));
@@ -190,7 +194,22 @@ fn written() -> Vec<Case> {
     for n in [0, 17, 19] {
         cases.push(write(format!("a record of {n} numbers"), &vec![0; n]));
     }
+    let warnings = (0..16).map(|n| [n / 4, n % 4, 0]);
+    let silences = [1, 2, 5, 9].map(|broadcaster| [7, 0, broadcaster]);
+    cases.extend(warnings.chain(silences).map(|[identification, update, broadcaster]| {
+        let what = format!("identification {identification}, update {update}, broadcaster {broadcaster}, over zeros");
+        write(what, &short_record(identification, update, broadcaster)).lent(&[0; 26])
+    }));
     cases
+}
+
+/// A record that is 0 but for these.
+pub(crate) fn short_record(identification: u64, update: u64, broadcaster: u64) -> Record {
+    let mut record = [0; 18];
+    record[IDENTIFICATION] = identification;
+    record[UPDATE] = update;
+    record[BROADCASTER] = broadcaster;
+    record
 }
 
 // ---- the reader
@@ -210,8 +229,8 @@ const FRAMES: &str = "
 5af7000000000000000000000000004308c01110000000000000 | 3 .. | no pattern and nine hits
 1af7040000000000000000000000dd3571e5e0074536075add60 | 5 .. | identification 4, the CRC wrong
 1af7640000000000000000000000dd6ba7e8239c630ae7c28140 | 6 .. | identification 4, start/end 11
-1af7077fffffff805fffffffffffcd3b0241c13d6f14b3b28d70 | 7 .. | identification 7, start/end 00, a fixed bit 0
-1af777ffffffff00bfffffffffff3e583d134b51523b875a54e0 | 7 .. | identification 7, update 2, a fixed bit 0
+1af7077fffffff805fffffffffffcd3b0241c13d6f14b3b28d70 | 7 .. | identification 7, start/end 00 and update 00, a fixed bit 0
+1af777ffffffff00bfffffffffff3e583d134b51523b875a54e0 | 7 .. | identification 7, update 2
 1af7000000000100070a0000000071fee4dcd9339873b730f150 | 8 .. | a place with B111 0, over its limits
 1af70500000000000000000000004f521e5692041479a68c6810 | 6 .. | identification 5
 1af70a0000000ba58f0baea14709a335ac25ca42ddbf9efe2c30 | 9 .. | a place of latitude 901
@@ -242,7 +261,7 @@ fn read() -> Vec<Case> {
             let case = case(what.to_owned(), &hex(digits));
             match answer {
                 "-" => case,
-                _ => case.published("document 01", answer),
+                _ => case.known("document 01's rules", answer),
             }
         })
         .collect();
@@ -271,13 +290,14 @@ fn areas() -> Vec<Case> {
             .fields(record)
     };
     let mut cases = vec![];
-    for area in [0, 14, 15, 16, 55, 56, 64, u64::MAX] {
+    for area in [0, 14, 15, 16, 55] {
         let only = if area == 15 { "100" } else { "0" };
-        let all = if area < 56 { "100" } else { "0" };
-        cases.push(case("all areas", &[0; 18], area).published("document 01, example 11", all));
-        cases.push(
-            case("Tokyo alone", &tokyo, area).published("document 01: Tokyo is area 15", only),
-        );
+        cases.push(case("all areas", &[0; 18], area).known("document 01, example 11", "100"));
+        cases.push(case("Tokyo alone", &tokyo, area).known("document 01: Tokyo is area 15", only));
+    }
+    for area in [56, 64, u64::MAX] {
+        cases.push(case("all areas", &[0; 18], area).known("there are 56 areas", "0"));
+        cases.push(case("Tokyo alone", &tokyo, area).known("there are 56 areas", "0"));
     }
     for (body, base) in bases() {
         cases.push(case(body, &base, 15));
@@ -397,8 +417,8 @@ fn places() -> Vec<Case> {
         cases.extend(numbers(tenths).into_iter().map(|n| image(flag, n)));
     }
     cases.push(image(2, 5));
-    cases.push(image(0, 3).published("0.3 rounded once", "3fd3333333333333"));
-    cases.push(image(1, 0).published("document 01: minus zero", "8000000000000000"));
+    cases.push(image(0, 3).known("0.3 rounded once", "3fd3333333333333"));
+    cases.push(image(1, 0).known("document 01: minus zero", "8000000000000000"));
     cases.extend(KILOMETRES.map(|km| Case::new("kilometres", format!("{km}")).numbers(&[km])));
     cases
 }

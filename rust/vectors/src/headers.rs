@@ -1,13 +1,13 @@
-//! The cable header: judged, read, written, laid into and taken out of.
-use crate::frames::{frame, frames};
+//! The cable header: judged, read and written.
+use crate::laying;
 use crate::{status, Call, Case, Lends, Operation};
 use reference::crc::crc32;
 use reference::header::*;
 use reference::{flip_bit, put};
 
-type Bytes = [u8; HEADER_BYTES];
+pub(crate) type Bytes = [u8; HEADER_BYTES];
 
-pub(crate) const OPERATIONS: [Operation; 7] = [
+pub(crate) const OPERATIONS: [Operation; 6] = [
     operation("refusal", |call| u64::from(refusal(&call.input))),
     operation("header_write", |call| {
         match <&Record>::try_from(&call.fields[..]) {
@@ -19,10 +19,6 @@ pub(crate) const OPERATIONS: [Operation; 7] = [
         seal(&mut call.lent);
         0
     }),
-    operation("lay_in", |call| {
-        status(lay_in(&mut call.lent, &call.input), 0)
-    }),
-    operation("take_out", |call| status(take_out(&mut call.lent), 0)),
     operation("each_bit", each_bit),
     Operation {
         name: "header_read",
@@ -34,6 +30,17 @@ pub(crate) const OPERATIONS: [Operation; 7] = [
                 status(0, 0)
             }
             Err(number) => status(number, 0),
+        },
+    },
+    Operation {
+        name: "read_by_value",
+        lends: Lends::Values,
+        status: |call| {
+            let found = read(&call.input);
+            call.values = found
+                .as_ref()
+                .map_or(vec![0; FIELDS], |record| record.to_vec());
+            u64::from(found.err().unwrap_or(0))
         },
     },
 ];
@@ -54,7 +61,8 @@ fn seal(header: &mut [u8]) {
     }
 }
 
-/// The refusal of the header with each bit below a number turned over and, if asked, its CRC made again; 255 for one that is accepted and does not come back.
+/// The refusal of the header with each bit below a number turned over and, if asked, its CRC made again; 255 for one that is accepted and does not come back. The program
+/// says 254 where the reader answers another number.
 fn each_bit(call: &mut Call) -> u64 {
     let [end, again, _] = call.numbers;
     for k in 0..end as usize {
@@ -97,7 +105,7 @@ fn model() -> Record {
 }
 
 /// Different values in the fields.
-fn filled() -> Record {
+pub(crate) fn filled() -> Record {
     let mut record: Record =
         std::array::from_fn(|field| (field as u64 * 40_503 + 11) & largest(field));
     record[PACKET] = 0x4712_3456;
@@ -122,7 +130,7 @@ fn with(mut record: Record, changes: &[(usize, u64)]) -> Record {
     record
 }
 
-fn written(record: &Record) -> Bytes {
+pub(crate) fn written(record: &Record) -> Bytes {
     let mut header = [0; HEADER_BYTES];
     write(record, &mut header);
     header
@@ -137,7 +145,7 @@ pub(crate) fn set_form(header: &mut Bytes, form: u64) {
 }
 
 /// The model header with these bits turned over and, if asked, its CRC made again.
-fn flipped(places: &[usize], again: bool) -> Bytes {
+pub(crate) fn flipped(places: &[usize], again: bool) -> Bytes {
     let mut header = model_header();
     for &k in places {
         flip_bit(&mut header, k);
@@ -156,12 +164,24 @@ fn write_case(what: impl Into<String>, record: &[u64]) -> Case {
         .lent(&[0xA5; HEADER_BYTES])
 }
 
-/// A header judged, and read.
-fn read_cases(what: &str, header: &[u8]) -> [Case; 2] {
+/// A header judged, and read, into lent fields and by value.
+fn read_cases(what: &str, header: &[u8]) -> [Case; 3] {
     [
         Case::new("refusal", what).input(header),
         Case::new("header_read", what).input(header).values(FIELDS),
+        Case::new("read_by_value", what)
+            .input(header)
+            .values(FIELDS),
     ]
+}
+
+/// The model header with these bits turned over: its CRC made again, if asked, and the header judged and read.
+fn flipped_cases(what: &str, places: &[usize], again: bool) -> Vec<Case> {
+    let mut cases = read_cases(what, &flipped(places, again)).to_vec();
+    if again {
+        cases.push(Case::new("seal", what).lent(&flipped(places, false)));
+    }
+    cases
 }
 
 pub(crate) fn cases() -> Vec<Case> {
@@ -173,8 +193,7 @@ pub(crate) fn cases() -> Vec<Case> {
         refusals(),
         forms(),
         order(),
-        laid(),
-        headers(),
+        after_laying(),
     ]
     .concat()
 }
@@ -217,7 +236,7 @@ fn whole() -> Vec<Case> {
     ] {
         let case = write_case(format!("the {name} record"), &record);
         cases.push(match name {
-            "model" => case.published("the model header", "..e760a571"),
+            "model" => case.known("by another program", "..e760a571"),
             _ => case,
         });
         cases.extend(read_cases(&format!("the {name} header"), &written(&record)));
@@ -230,12 +249,12 @@ fn lengths() -> Vec<Case> {
     let longer = [&model_header()[..], &[0]].concat();
     let mut cases = vec![];
     for n in [0, 187, 188, 189] {
-        let [judged, read] = read_cases(&format!("{n} bytes"), &longer[..n]);
+        let [judged, read, by_value] = read_cases(&format!("{n} bytes"), &longer[..n]);
         cases.push(match n {
-            187 => judged.published("document 01, example 12", "1"),
+            187 => judged.known("document 01, example 12", "1"),
             _ => judged,
         });
-        cases.push(read);
+        cases.extend([read, by_value]);
         for form in [1, 9] {
             let record = with(model(), &[(FORM, form)]);
             cases.push(
@@ -297,17 +316,15 @@ const FAULTS: [(&[usize], bool, &str); 18] = [
 fn refusals() -> Vec<Case> {
     let mut cases = vec![];
     for (places, again, what) in FAULTS {
-        cases.extend(read_cases(what, &flipped(places, again)));
+        cases.extend(flipped_cases(what, places, again));
     }
     for stream in 0..15 {
         let state = [552 + 2 * stream, 553 + 2 * stream];
         let invalid = [state[0], state[1], 56 + stream];
         let what = format!("reception state 11 of stream {}", stream + 1);
-        cases.extend(read_cases(&what, &flipped(&state, true)));
-        cases.extend(read_cases(
-            &format!("{what}, which is not valid"),
-            &flipped(&invalid, true),
-        ));
+        cases.extend(flipped_cases(&what, &state, true));
+        let what = format!("{what}, which is not valid");
+        cases.extend(flipped_cases(&what, &invalid, true));
     }
     cases
 }
@@ -323,8 +340,8 @@ fn forms() -> Vec<Case> {
         let made = Case::new("seal", format!("form {form}")).lent(&header);
         let judged = Case::new("refusal", format!("form {form}")).input(&sealed);
         if form == 2 {
-            cases.push(made.published("the model header with form 2", "..a94b8658"));
-            cases.push(judged.published("document 01, example 12", "e"));
+            cases.push(made.known("by another program", "..a94b8658"));
+            cases.push(judged.known("document 01, example 12", "e"));
         } else {
             cases.extend([made, judged]);
         }
@@ -368,69 +385,11 @@ fn order() -> Vec<Case> {
     CHANGES.iter().map(case).collect()
 }
 
-// ---- laying in and taking out
-
-fn lay(what: impl Into<String>, header: &[u8], frame: &[u8]) -> Case {
-    Case::new("lay_in", what).lent(header).input(frame)
-}
-
-/// Each frame of the reader's table into the model header, and pieces that are no frame.
-fn laid() -> Vec<Case> {
-    let case = |(frame, what): (Vec<u8>, &str)| {
-        let case = lay(format!("model header: {what}"), &model_header(), &frame);
-        match what.starts_with("all areas") && !what.contains("B0") {
-            true => case.published("example 11 in the model header", "..b0ac5a53"),
-            false => case,
-        }
+/// Headers into which frames were laid in turn.
+fn after_laying() -> Vec<Case> {
+    let case = |(name, header): (&str, Bytes)| {
+        let (_, header) = laying::in_turn(name, header);
+        read_cases(&format!("{name} header after frames were laid in"), &header)
     };
-    frames().map(case).collect()
-}
-
-/// A good frame and a refused one into headers that are refused, and taking out of them; frames in turn into one header.
-fn headers() -> Vec<Case> {
-    let refused: [(&str, &[usize], bool, usize); 6] = [
-        ("a header of 187 bytes", &[], true, 187),
-        ("a header of none", &[], true, 0),
-        ("byte 0 wrong", &[7], true, 188),
-        ("CRC wrong", &[1503], false, 188),
-        ("form 2", &[54, 55], true, 188),
-        ("the fixed bit 0", &[71], true, 188),
-    ];
-    let mut cases = vec![];
-    for (what, places, again, n) in refused {
-        let header = &flipped(places, again)[..n];
-        cases.push(lay(
-            format!("{what}, all areas"),
-            header,
-            &frame("all areas"),
-        ));
-        cases.push(lay(
-            format!("{what}, no pattern"),
-            header,
-            &frame("no pattern"),
-        ));
-        cases.push(Case::new("take_out", what).lent(header));
-    }
-    cases.extend(in_turn("model", model_header()));
-    cases.extend(in_turn("filled", written(&filled())));
-    cases
-}
-
-fn in_turn(name: &str, mut header: Bytes) -> Vec<Case> {
-    let mut cases = vec![];
-    for what in ["place", "place", "nine hits", "pattern 1"] {
-        let frame = frame(what);
-        cases.push(lay(
-            format!("{name} header in turn: {what}"),
-            &header,
-            &frame,
-        ));
-        lay_in(&mut header, &frame);
-    }
-    cases.extend(read_cases(&format!("{name} header after that"), &header));
-    for what in ["taken out", "taken out twice"] {
-        cases.push(Case::new("take_out", format!("{name} header, {what}")).lent(&header));
-        take_out(&mut header);
-    }
-    cases
+    laying::headers().into_iter().flat_map(case).collect()
 }

@@ -3,6 +3,7 @@
 mod codes;
 mod frames;
 mod headers;
+mod laying;
 mod reading;
 mod receiver;
 
@@ -17,7 +18,7 @@ pub struct Program {
     cases: fn() -> Vec<Case>,
 }
 
-pub const PROGRAMS: [Program; 4] = [
+pub const PROGRAMS: [Program; 5] = [
     Program {
         name: "test_codes",
         operations: &codes::OPERATIONS,
@@ -37,6 +38,11 @@ pub const PROGRAMS: [Program; 4] = [
         name: "test_headers",
         operations: &headers::OPERATIONS,
         cases: headers::cases,
+    },
+    Program {
+        name: "test_laying",
+        operations: &laying::OPERATIONS,
+        cases: laying::cases,
     },
 ];
 
@@ -71,8 +77,8 @@ struct Case {
     numbers: [u64; 3],
     input: Vec<u8>,
     lent: Vec<u8>,
-    /// Where the answer is published, and the answer: `..` for what is not told in front or behind.
-    published: Option<(&'static str, &'static str)>,
+    /// Where the answer is known from, if not from the plain version alone, and the answer: `..` for what is not told in front or behind.
+    known: Option<(&'static str, &'static str)>,
 }
 
 impl Case {
@@ -83,7 +89,7 @@ impl Case {
             numbers: [0; 3],
             input: vec![],
             lent: vec![],
-            published: None,
+            known: None,
         }
     }
 
@@ -114,9 +120,16 @@ impl Case {
         self
     }
 
-    fn published(mut self, place: &'static str, answer: &'static str) -> Case {
-        self.published = Some((place, answer));
+    fn known(mut self, from: &'static str, answer: &'static str) -> Case {
+        self.known = Some((from, answer));
         self
+    }
+
+    fn same_call(&self, other: &Case) -> bool {
+        self.operation == other.operation
+            && self.numbers == other.numbers
+            && self.input == other.input
+            && self.lent == other.lent
     }
 
     /// The case as the program reads it.
@@ -150,25 +163,20 @@ impl Case {
             Lends::Values => values_text(&call.values),
         };
         let answer = format!("{told}{status:x}{lent}");
-        if let Some((place, published)) = self.published {
-            assert!(
-                agrees(&answer, published),
-                "{place}: {published}, here {answer}"
-            );
+        if let Some((from, known)) = self.known {
+            assert!(agrees(&answer, known), "{from}: {known}, here {answer}");
         }
         answer
     }
 
     /// What the list says of it.
     fn text(&self) -> String {
-        let published = self
-            .published
-            .map(|(place, end)| format!(" [{place}: {end}]"));
+        let known = self.known.map(|(from, end)| format!(" [{from}: {end}]"));
         format!(
             "{}: {}{}",
             self.operation,
             self.what,
-            published.unwrap_or_default()
+            known.unwrap_or_default()
         )
     }
 }
@@ -187,7 +195,7 @@ impl Program {
             stdout: String::new(),
             list: format!("{}\n", self.name),
         };
-        for (i, case) in (self.cases)().iter().enumerate() {
+        for (i, case) in merged((self.cases)()).iter().enumerate() {
             let number = self
                 .operations
                 .iter()
@@ -200,6 +208,23 @@ impl Program {
         }
         files
     }
+}
+
+/// Cases that make the same call are one, which is what each of them is.
+fn merged(cases: Vec<Case>) -> Vec<Case> {
+    let mut merged: Vec<Case> = vec![];
+    for case in cases {
+        match merged.iter_mut().find(|before| before.same_call(&case)) {
+            Some(before) => {
+                if before.what != case.what {
+                    before.what = format!("{}; {}", before.what, case.what);
+                }
+                before.known = before.known.or(case.known);
+            }
+            None => merged.push(case),
+        }
+    }
+    merged
 }
 
 /// The list of all cases.
@@ -257,14 +282,14 @@ fn values_text(values: &[u64]) -> String {
         .collect()
 }
 
-/// Whether an answer is the published one.
-fn agrees(answer: &str, published: &str) -> bool {
+/// Whether an answer is the known one.
+fn agrees(answer: &str, known: &str) -> bool {
     // A colon with nothing behind it is an empty slice.
     let answer = answer.trim_end_matches(':');
-    match (published.strip_prefix(".."), published.strip_suffix("..")) {
+    match (known.strip_prefix(".."), known.strip_suffix("..")) {
         (Some(end), _) => answer.ends_with(end),
         (_, Some(start)) => answer.starts_with(start),
-        _ => answer == published,
+        _ => answer == known,
     }
 }
 

@@ -1,8 +1,9 @@
 //! The follower and the captures.
+use crate::frames::short_record;
 use crate::{status, Call, Case, Lends, Operation};
 use reference::capture::{frame_at, numbers};
 use reference::follower::{follow, reset, Event, Kind, State};
-use reference::frame::{write, BROADCASTER, IDENTIFICATION, UPDATE};
+use reference::frame::write;
 
 pub(crate) const OPERATIONS: [Operation; 6] = [
     operation("follow", |call| {
@@ -104,16 +105,13 @@ fn captures(call: &Call) -> (&[u8], &[u8], u64) {
 type Frame = [u8; 26];
 
 fn written(identification: u64, update: u64, broadcaster: u64) -> Frame {
-    let mut record = [0; 18];
-    record[IDENTIFICATION] = identification;
-    record[UPDATE] = update;
-    record[BROADCASTER] = broadcaster;
+    let record = short_record(identification, update, broadcaster);
     let mut frame = [0; 26];
     assert_eq!(write(&record, &mut frame), 0);
     frame
 }
 
-/// Frames of every kind: identifications 0 to 3 with updates 0 to 3; no information; pieces that are no frame; 26 zeros.
+/// Frames of every kind: identifications 0 to 3 with updates 0 to 3; no information; pieces that are no frame; 26 and 27 zeros.
 fn frames() -> Vec<(String, Vec<u8>)> {
     let warning = |n: u64| {
         let what = format!("identification {}, update {}", n / 4, n % 4);
@@ -172,22 +170,17 @@ fn followed() -> Vec<Case> {
     }
     let changed = follow_case(7, "update 3 then 0", &written(0, 0, 0));
     let skipped = follow_case(4, "update 0 then 3", &written(0, 3, 0));
-    cases.push(changed.published("document 01, example 9", "40400"));
-    cases.push(skipped.published("document 01, example 9", "70500"));
+    cases.push(changed.known("document 01, example 9", "40400"));
+    cases.push(skipped.known("document 01, example 9", "70500"));
     cases
 }
 
 /// From the first state, and from states of any update number.
 fn stepped() -> Vec<Case> {
-    let states = [
-        [0, 0, 0],
-        [1, 255, 0],
-        [2, 255, 0],
-        [1, u64::MAX, 0],
-        [2, u64::MAX, 0],
-    ];
+    let updates = [0, 1, 2, 3, 255, u64::MAX];
+    let active = updates.map(|update| [[1, update, 0], [2, update, 0]]);
     let mut cases = vec![];
-    for numbers in states {
+    for numbers in [[0; 3]].into_iter().chain(active.concat()) {
         let state = state_text(state_of(numbers));
         for (what, frame) in frames() {
             cases.push(
@@ -197,7 +190,7 @@ fn stepped() -> Vec<Case> {
             );
         }
         let case = Case::new("reset", state).numbers(&numbers);
-        cases.push(case.published("document 01: a reset gives quiet", "0 0"));
+        cases.push(case.known("document 01: a reset gives quiet", "0 0"));
     }
     cases
 }
@@ -221,9 +214,7 @@ fn sequence() -> Vec<Case> {
         state = follow(state, &frame).0;
         case
     };
-    let mut cases: Vec<Case> = frames.map(&mut case).into();
-    cases.push(Case::new("reset", "after that row").numbers(&[1, 2]));
-    cases
+    frames.map(&mut case).into()
 }
 
 /// Hit in B24 to B31, and in the bits of `more` among B32 to B39.
