@@ -26,7 +26,7 @@ fn read_field(s: &[u8], at: usize, width: usize) -> u64
 }
 
 // The same, out of eight bytes at once where they are there: for widths that are not known when the program is compiled.
-// It requires that the bits are there, as `read_all` does, for the same reason.
+// It requires that the bits are there, as `bit_layouts::read_all` does, for the same reason.
 pub fn read_wide(s: &[u8], at: usize, width: usize) -> u64
     requires { ⌜ (width ≤ 64) × (at + width ≤ 8 * length (now s)) ⌝ }
     ensures { λ r. ⌜ r ≡ fieldAt (now (s .entry)) at width ⌝ }

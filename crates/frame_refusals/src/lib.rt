@@ -62,7 +62,7 @@ fn crc_differs(word: &[u8]) -> bool
     stands != crc as u64
 }
 
-// The tests after the repair: 5 to 9, or 0.
+// The tests after the repair: 5 to 9, or 0. The details are required to be those of the word: the caller has read them already.
 pub fn word_refusal(word: &[u8], details: Details) -> u8
     requires { ⌜ (length (now word) ≡ 26) × Tells (now word) details ⌝ }
     ensures { λ r. ⌜ r ≡ firstRefusal (afterRepair (now (word .entry))) ⌝ }

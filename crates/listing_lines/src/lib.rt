@@ -1,4 +1,5 @@
-// The lines of the listing, stored in a buffer: a frame's line, for which room is required, and the last line.
+// The lines of the listing, stored in a buffer: a frame's line, for which room is required, since `listing_writer` has tested it
+// for all lines at once, and the last line.
 ghost use mathlib.Core.Path.{_≡_};
 ghost use Prim.Native.Nat.{_+_, _≤_};
 ghost use lib.ListN.{length};
