@@ -1,5 +1,5 @@
 //! The checksums and the code.
-use crate::{numbers, rows, status, Call, Case, Lends, Operation};
+use crate::{because, numbers, rows, status, Call, Case, Lends, Operation};
 use reference::code::{self, GENERATOR};
 use reference::crc::{crc10, crc32};
 use reference::{bit, flip_bit, get, put, repair};
@@ -128,7 +128,25 @@ fn hit(mut frame: [u8; 26], k: usize, n: usize) -> [u8; 26] {
 }
 
 pub(crate) fn cases() -> Vec<Case> {
-    [checksums(), messages(), repairs(), fields()].concat()
+    [
+        because(
+            "check values, document 01's examples, every count of bits and every length of bytes",
+            checksums(),
+        ),
+        because(
+            "the parity, in its place and nowhere else; words for the repair",
+            messages(),
+        ),
+        because(
+            "the repair up to eight places and past them, by both engines and by value: document 01's examples, hits over the whole word",
+            repairs(),
+        ),
+        because(
+            "fields inside a byte, over nine bytes, at the end, past it: what is not there is 0, and nothing else is written",
+            fields(),
+        ),
+    ]
+    .concat()
 }
 
 fn checksums() -> Vec<Case> {

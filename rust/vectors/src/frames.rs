@@ -1,5 +1,5 @@
 //! Frames and records, reports and places.
-use crate::{hex, numbers, rows, status, Call, Case, Lends, Operation};
+use crate::{because, hex, numbers, rows, status, Call, Case, Lends, Operation};
 use reference::frame::{
     self, Record, BROADCASTER, DEPTH, IDENTIFICATION, LATITUDE, LONGITUDE, SOUTH, UPDATE,
 };
@@ -117,7 +117,33 @@ fn longitudes(call: &mut Call) -> u64 {
 }
 
 pub(crate) fn cases() -> Vec<Case> {
-    [written(), read(), areas(), reports(), places(), sweeps()].concat()
+    [
+        because(
+            "each field of each body at its least, its most and beyond: its place, its width, refusals 10, 9, 6, 1, whatever stood in the buffer",
+            written(),
+        ),
+        because(
+            "each refusal of a frame, alone and before others, hits, and a frame of each body",
+            read(),
+        ),
+        because(
+            "0 means warned: the areas at both ends, about Tokyo, and numbers that no area has",
+            areas(),
+        ),
+        because(
+            "each case of a report, the limits, and each refusal of a record",
+            reports(),
+        ),
+        because(
+            "doubles about every limit, zeros, infinities and NaNs in each of the desk's three; images of numbers",
+            places(),
+        ),
+        because(
+            "every longitude's image comes back, and no double beside one is taken",
+            sweeps(),
+        ),
+    ]
+    .concat()
 }
 
 // ---- the writer

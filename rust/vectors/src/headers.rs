@@ -1,6 +1,6 @@
 //! The cable header: judged, read and written.
 use crate::laying;
-use crate::{status, Call, Case, Lends, Operation};
+use crate::{because, status, Call, Case, Lends, Operation};
 use reference::crc::crc32;
 use reference::header::*;
 use reference::{flip_bit, put};
@@ -186,14 +186,20 @@ fn flipped_cases(what: &str, places: &[usize], again: bool) -> Vec<Case> {
 
 pub(crate) fn cases() -> Vec<Case> {
     [
-        fields(),
-        whole(),
-        lengths(),
-        bits(),
-        refusals(),
-        forms(),
-        order(),
-        after_laying(),
+        because(
+            "each of the 145 fields at its least, its most and beyond: its place, its width, refusals",
+            fields(),
+        ),
+        because("whole headers, there and back", whole()),
+        because("buffers and records of other lengths", lengths()),
+        because("every bit is read, or refused, or covered by the CRC", bits()),
+        because(
+            "each refusal of a header, alone and before others; every reception state",
+            refusals(),
+        ),
+        because("every form", forms()),
+        because("the order of a record's refusals", order()),
+        because("a header with a frame in it is read as any other", after_laying()),
     ]
     .concat()
 }

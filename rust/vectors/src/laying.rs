@@ -1,7 +1,7 @@
 //! A frame laid into a header, and taken out.
 use crate::frames::{frame, frames};
 use crate::headers::{filled, flipped, model_header, written, Bytes};
-use crate::{status, Case, Lends, Operation};
+use crate::{because, status, Case, Lends, Operation};
 use reference::header::{lay_in, take_out};
 
 pub(crate) const OPERATIONS: [Operation; 2] = [
@@ -18,7 +18,21 @@ pub(crate) const OPERATIONS: [Operation; 2] = [
 ];
 
 pub(crate) fn cases() -> Vec<Case> {
-    [laid(), refused(), turns()].concat()
+    [
+        because(
+            "each kind of frame, accepted and refused, into one header",
+            laid(),
+        ),
+        because(
+            "a refused header is left, and is tested before the frame",
+            refused(),
+        ),
+        because(
+            "a frame over another one, and taken out twice: nothing else changes",
+            turns(),
+        ),
+    ]
+    .concat()
 }
 
 fn lay(what: impl Into<String>, header: &[u8], frame: &[u8]) -> Case {

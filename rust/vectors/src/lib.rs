@@ -72,6 +72,8 @@ struct Call {
 
 #[derive(Clone)]
 struct Case {
+    /// Why it and those beside it are there.
+    why: &'static str,
     operation: &'static str,
     what: String,
     numbers: [u64; 3],
@@ -84,6 +86,7 @@ struct Case {
 impl Case {
     fn new(operation: &'static str, what: impl Into<String>) -> Case {
         Case {
+            why: "",
             operation,
             what: what.into(),
             numbers: [0; 3],
@@ -195,7 +198,12 @@ impl Program {
             stdout: String::new(),
             list: format!("{}\n", self.name),
         };
+        let mut why = "";
         for (i, case) in merged((self.cases)()).iter().enumerate() {
+            if case.why != why {
+                why = case.why;
+                writeln!(files.list, "\n  {why}").unwrap();
+            }
             let number = self
                 .operations
                 .iter()
@@ -208,6 +216,12 @@ impl Program {
         }
         files
     }
+}
+
+/// Cases that are there for one reason.
+fn because(why: &'static str, cases: Vec<Case>) -> Vec<Case> {
+    let case = |case| Case { why, ..case };
+    cases.into_iter().map(case).collect()
 }
 
 /// Cases that make the same call are one, which is what each of them is.

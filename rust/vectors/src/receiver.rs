@@ -1,6 +1,6 @@
 //! The follower and the captures.
 use crate::frames::short_record;
-use crate::{status, Call, Case, Lends, Operation};
+use crate::{because, status, Call, Case, Lends, Operation};
 use reference::capture::{frame_at, numbers};
 use reference::follower::{follow, reset, Event, Kind, State};
 use reference::frame::write;
@@ -132,7 +132,22 @@ fn frames() -> Vec<(String, Vec<u8>)> {
 }
 
 pub(crate) fn cases() -> Vec<Case> {
-    [followed(), stepped(), sequence(), tuners()].concat()
+    [
+        because(
+            "every state with every kind of frame, and numbers that no state has",
+            followed(),
+        ),
+        because(
+            "the same with the whole update number told, and updates above 3",
+            stepped(),
+        ),
+        because("a run of frames, the state carried on", sequence()),
+        because(
+            "main before spare, captures cut at every part of a frame, frame numbers past them",
+            tuners(),
+        ),
+    ]
+    .concat()
 }
 
 fn state_text(state: State) -> String {
