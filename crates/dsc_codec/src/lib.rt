@@ -64,13 +64,13 @@ pub fn repair(frame: &[u8]) -> Answer
     ensures { λ a. ⌜ Repairs (now (frame .entry)) a × (a ≡ repairOf (now (frame .entry))) ⌝ }
 {
     if frame.len() != 26 {
-        return dsc_bits::refused(1);
+        return dsc_bytes::refused(1);
     }
     let received = dsc_words::received(frame);
     let found = find(received);
     match found {
         Found::Near(word, places) => repaired(word, places),
-        Found::Far => dsc_bits::refused(4),
+        Found::Far => dsc_bytes::refused(4),
     }
 }
 
@@ -102,7 +102,7 @@ pub fn encode(frame: &mut [u8])
     if frame.len() != 26 {
         return;
     }
-    let word = dsc_bits::received(frame);
+    let word = dsc_bytes::received(frame);
     let parity = dsc_encoder::parity(&word);
     let high = dsc_bits::number(&parity, 0, 41);
     let low = dsc_bits::number(&parity, 41, 41);

@@ -15,13 +15,13 @@ fn repair_word(received: &[bool]) -> Answer
     let t = dsc_tables::check_rows::table();
     let w = dsc_majority::decide_word(&g, &t, received);
     if !dsc_shift_register::is_code_word(&g, &w) {
-        return dsc_bits::refused(4);
+        return dsc_bytes::refused(4);
     }
     let places = dsc_bits::distance(received, &w);
     if 8 < places {
-        return dsc_bits::refused(4);
+        return dsc_bytes::refused(4);
     }
-    dsc_bits::repaired(&w, places)
+    dsc_bytes::repaired(&w, places)
 }
 
 // The repair asked for alone: of any bytes, it looks only at B17 to B203, and refuses 1, then 4.
@@ -30,8 +30,8 @@ pub fn repair(frame: &[u8]) -> Answer
     ensures { λ a. ⌜ a ≡ registerRepairOf (now (frame .entry)) ⌝ }
 {
     if frame.len() != 26 {
-        return dsc_bits::refused(1);
+        return dsc_bytes::refused(1);
     }
-    let received = dsc_bits::received(frame);
+    let received = dsc_bytes::received(frame);
     repair_word(&received)
 }

@@ -1,14 +1,14 @@
--- `dsc_bits::frame_bit` meets its contract. Assumes nothing.
+-- `dsc_bytes::frame_bit` meets its contract. Assumes nothing.
 use mathlib.Core.Path.{_≡_, ap, _∙_}
 use Prim.Native.Nat.{_+_, _*_, _/_, _%_}
 use native.Mathlib.Omega.{arith}
 use lib.Dec.{eqb}
 use Rattle.dsc_bits.specs.Words.{at}
 use Rattle.bits.specs.Bits.{bits}
-use Rattle.dsc_bits.proofs.Octets.{digit-set}
+use Rattle.dsc_bytes.proofs.Frames.{digit-set}
 use borrow.Author.Needs.{needs}
-use Rattle.dsc_bits.proofs.frame_bit.Statement.{statement}
-use Rattle.dsc_bits.proofs.frame_bit.Tie as tie
+use Rattle.dsc_bytes.proofs.frame_bit.Statement.{statement}
+use Rattle.dsc_bytes.proofs.frame_bit.Tie as tie
 
 bit-requires : tie.Need-bit-requires
 bit-requires c κs = search needs

@@ -1,14 +1,15 @@
--- `dsc_bits::octet` meets its contract: a bit of the byte at each turn. Assumes nothing.
+-- `dsc_bytes::octet` meets its contract: a bit of the byte at each turn. Assumes nothing.
 use borrow.Author.Needs.{needs}
 use mathlib.Core.Path.{_≡_, refl, sym, ap, ap₂, _∙_}
 use Prim.Native.Nat.{_≤_, _<_, _-_, _+_, _*_}
 use native.Mathlib.Omega.{arith}
 use lib.ListN.{take, drop}
 use Rattle.bits.specs.Bits.{value}
-use Rattle.dsc_bits.specs.Words.{padded}
-use Rattle.dsc_bits.proofs.Octets.{value-next, value-small, length-padded}
-use Rattle.dsc_bits.proofs.octet.Statement.{statement}
-use Rattle.dsc_bits.proofs.octet.Tie as tie
+use Rattle.dsc_bytes.specs.Padded.{padded}
+use Rattle.dsc_bits.proofs.Octets.{value-next}
+use Rattle.dsc_bytes.proofs.Frames.{value-small, length-padded}
+use Rattle.dsc_bytes.proofs.octet.Statement.{statement}
+use Rattle.dsc_bytes.proofs.octet.Tie as tie
 
 abbrev Inv-loop : tie.InvT-loop
 Inv-loop w j v₀ i₀ v i = (i ≤ 8) × (v ≡ value (take i (drop (8 * j) (padded w))))

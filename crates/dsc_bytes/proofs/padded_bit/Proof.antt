@@ -1,14 +1,15 @@
--- `dsc_bits::padded_bit` meets its contract. Assumes nothing.
+-- `dsc_bytes::padded_bit` meets its contract. Assumes nothing.
 use mathlib.Core.Path.{_≡_, refl, sym, ap, _∙_}
 use mathlib.Core.Bool.{false}
 use Prim.Native.Nat.{ℕ, _+_, _-_}
 use native.Mathlib.Omega.{arith}
 use Rattle.bits.specs.Bits.{digit}
-use Rattle.dsc_bits.specs.Words.{at, padded}
-use Rattle.dsc_bits.proofs.Octets.{padded-before, padded-word, padded-after}
+use Rattle.dsc_bits.specs.Words.{at}
+use Rattle.dsc_bytes.specs.Padded.{padded}
+use Rattle.dsc_bytes.proofs.Frames.{padded-before, padded-word, padded-after}
 use borrow.Author.Needs.{needs}
-use Rattle.dsc_bits.proofs.padded_bit.Statement.{statement}
-use Rattle.dsc_bits.proofs.padded_bit.Tie as tie
+use Rattle.dsc_bytes.proofs.padded_bit.Statement.{statement}
+use Rattle.dsc_bytes.proofs.padded_bit.Tie as tie
 
 clear : _≡_ {A = ℕ} 0 (digit false)
 unfolding digit

@@ -1,4 +1,4 @@
--- `dsc_bits::received` meets its contract. Assumes nothing.
+-- `dsc_bytes::received` meets its contract. Assumes nothing.
 use borrow.Author.Needs.{needs}
 use mathlib.Core.Path.{_≡_, sym, ap, _∙_}
 use mathlib.Core.Bool.{false}
@@ -7,12 +7,12 @@ use native.Mathlib.Omega.{arith}
 use lib.ListN.{length}
 use Rattle.bits.specs.Bits.{bits}
 use Rattle.dsc.specs.Repair.{protected}
 use Rattle.dsc_bits.specs.Words.{at}
 use Rattle.dsc.proofs.Answers.{length-protected}
-use Rattle.dsc_bits.proofs.Octets.{protected-at}
+use Rattle.dsc_bytes.proofs.Frames.{protected-at}
 use Rattle.dsc_bits.proofs.Steps.{Filled, filled-none, filled-next, filled-list}
-use Rattle.dsc_bits.proofs.received.Statement.{statement}
-use Rattle.dsc_bits.proofs.received.Tie as tie
+use Rattle.dsc_bytes.proofs.received.Statement.{statement}
+use Rattle.dsc_bytes.proofs.received.Tie as tie
 
 abbrev Inv-loop : tie.InvT-loop
 Inv-loop f w₀ n₀ w n = Filled false 187 (at (protected f)) n w

@@ -1,10 +1,10 @@
--- `dsc_bits::repaired` meets its contract. Assumes nothing.
+-- `dsc_bytes::repaired` meets its contract. Assumes nothing.
 use mathlib.Core.Path.{ap}
 use borrow.Author.Needs.{needs}
 use Rattle.dsc.specs.declared.Outcome.the-variants as outcome
 use Rattle.dsc.specs.declared.Answer.{Answer}
-use Rattle.dsc_bits.proofs.repaired.Statement.{statement}
-use Rattle.dsc_bits.proofs.repaired.Tie as tie
+use Rattle.dsc_bytes.proofs.repaired.Statement.{statement}
+use Rattle.dsc_bytes.proofs.repaired.Tie as tie
 
 word-bytes-requires : tie.Need-word-bytes-requires
 word-bytes-requires c κs = search needs

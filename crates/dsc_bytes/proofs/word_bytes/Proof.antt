@@ -1,16 +1,16 @@
--- `dsc_bits::word_bytes` meets its contract. Assumes nothing.
+-- `dsc_bytes::word_bytes` meets its contract. Assumes nothing.
 use borrow.Author.Needs.{needs}
 use mathlib.Core.Path.{sym, _∙_}
 use Prim.Native.Nat.{_-_}
 use native.Mathlib.Omega.{arith}
 use lib.ListN.{getD}
 use Rattle.dsc.specs.Repair.{wordBytes}
-use Rattle.dsc_bits.specs.Words.{padded}
+use Rattle.dsc_bytes.specs.Padded.{padded}
 use Rattle.dsc.proofs.Answers.{length-wordBytes}
 use Rattle.dsc_bits.proofs.Octets.{bytes-at}
 use Rattle.dsc_bits.proofs.Steps.{Filled, filled-none, filled-next, filled-list}
-use Rattle.dsc_bits.proofs.word_bytes.Statement.{statement}
-use Rattle.dsc_bits.proofs.word_bytes.Tie as tie
+use Rattle.dsc_bytes.proofs.word_bytes.Statement.{statement}
+use Rattle.dsc_bytes.proofs.word_bytes.Tie as tie
 
 abbrev Inv-loop : tie.InvT-loop
 Inv-loop w b₀ j₀ b j = Filled 0 26 (λ k. getD (wordBytes w) k 0) j b
