@@ -6,7 +6,7 @@ ghost use lib.Dec.{eqb, ltb};
 ghost use lib.ListN.{length, drop};
 ghost use Rattle.bits.specs.Bits.{bits};
 ghost use Rattle.bits.specs.Layout.{pack, unpack, sum, Layout, fitb};
-ghost use Rattle.bits.specs.Segment.{segment, segments, holds, fixedHold};
+ghost use Rattle.bits.specs.Segment.{segment, holds};
 
 // The values of the fields of the given widths, end to end from the first bit on.
 // The widths are a table of the calling program, known when it is written: that they find room is for its
@@ -82,7 +82,7 @@ fn all_ones(w: usize, v: u64) -> bool
     v == numbers::pow2(w) - 1
 }
 
-// A segment of the given kind and width holds v, if that is fixed.
+// A segment of the given kind and width holds v, if that is fixed: kind 0 is a field, 1 is fixed at 1, any other at 0.
 pub fn segment_holds(kind: u8, w: usize, v: u64) -> bool
     ensures { λ r. ⌜ r ≡ holds (segment kind w) v ⌝ }
 {
@@ -93,22 +93,4 @@ pub fn segment_holds(kind: u8, w: usize, v: u64) -> bool
         return all_ones(w, v);
     }
     v == 0
-}
-
-// Whether there is a value for each segment and each fixed one holds its own: kind 0 is a field, 1 is fixed
-// at 1, any other at 0. The values are those that `read_all` finds, the fixed ones among them.
-pub fn fixed_hold(kinds: &[u8], ws: &[usize], vs: &[u64]) -> bool
-    ensures { λ r. ⌜ r ≡ fixedHold (segments (now (kinds .entry)) (now (ws .entry))) (now (vs .entry)) ⌝ }
-{
-    if vs.len() != numbers::smaller(kinds.len(), ws.len()) {
-        return false;
-    }
-    let mut j = 0;
-    while j < vs.len() {
-        if !segment_holds(kinds[j], ws[j], vs[j]) {
-            return false;
-        }
-        j += 1;
-    }
-    true
 }

@@ -1,16 +1,14 @@
 -- Laws of layouts with fixed bits.
 -- Assumes nothing.
 use mathlib.Core.Path.{_≡_, refl, sym, ap, ap₂, _∙_}
-use mathlib.Core.Bool.{Bool, true, false, cond, _&&_, false≢true, and-eq-true-iff, and-assoc, and-false}
+use mathlib.Core.Bool.{Bool, true, false, cond, _&&_, false≢true, and-eq-true-iff, and-assoc}
 use mathlib.Core.List.{List, [], _∷_, _++_}
 use Prim.Native.Nat.{ℕ, zero, suc, _+_, _-_, _*_, _^_, _<_, min}
 use native.Mathlib.Nat.{suc-inj, not-suc-le-zero, le-of-suc-le-suc}
-use native.Mathlib.Numerals.{add-one}
 use native.Mathlib.Omega.{arith}
 use lib.Dec.{eqb}
 use borrow.Author.Tests.{eqb-true, eq-eqb}
 use lib.ListN.{length, getD, drop}
-use lib.Seq.{drop-cons, drop-length}
 use lib.Pow.{pow-pos, ones-lt}
 use Rattle.bits.specs.Bits.{bits, bytes, Bytes}
 use Rattle.bits.specs.Layout.{pack, unpack, sum, Fit}
@@ -181,16 +179,7 @@ fixedBitsHold-append l m bs =
     ap (fixedHold (l ++ m)) (unpack-widths l m bs)
     ∙ fixedHold-append l m (unpack (widths l) bs) (unpack (widths m) (drop (sum (widths l)) bs)) (length-unpack (widths l) bs ∙ length-widths l)
 
--- ---- the test, one segment after the other
-
--- the wrong number of values
-pub fixedHold-length : (l : List Segment) (vs : List ℕ) → (length vs ≡ length l → ⊥) → fixedHold l vs ≡ false
-unfolding fixedHold
-fixedHold-length [] [] h = absurd (h refl)
-fixedHold-length [] (v ∷ vs) h = refl
-fixedHold-length (g ∷ l) [] h = refl
-fixedHold-length (g ∷ l) (v ∷ vs) h =
-    ap (λ (t : Bool). holds g v && t) (fixedHold-length l vs (λ e. h (ap suc e))) ∙ and-false (holds g v)
+-- ---- the segments of a table
 
 width-segment : (k w : ℕ) → width (segment k w) ≡ w
 width-segment k w = go (eqb k 0) (eqb k 1)
@@ -219,17 +208,3 @@ getD-segments [] ws j hk hw = absurd (not-suc-le-zero hk)
 getD-segments (k ∷ ks) [] j hk hw = absurd (not-suc-le-zero hw)
 getD-segments (k ∷ ks) (w ∷ ws) zero hk hw = refl
 getD-segments (k ∷ ks) (w ∷ ws) (suc j) hk hw = getD-segments ks ws j (le-of-suc-le-suc hk) (le-of-suc-le-suc hw)
-
-pub fixedHold-next : (ks ws vs : List ℕ) (j : ℕ) (b : Bool) → j < length vs → length vs ≡ min (length ks) (length ws)
-    → holds (segment (getD ks j 0) (getD ws j 0)) (getD vs j 0) ≡ b
-    → fixedHold (drop j (segments ks ws)) (drop j vs) ≡ (b && fixedHold (drop (j + 1) (segments ks ws)) (drop (j + 1) vs))
-unfolding fixedHold
-fixedHold-next ks ws vs j b h e t =
-    let hl : j < length (segments ks ws) = omega (arith, length-segments ks ws) in
-    rw (add-one, drop-cons (segments ks ws) j (field 0) hl, drop-cons vs j 0 h, getD-segments ks ws j (omega arith) (omega arith), t)
-
-pub fixedHold-end : (ks ws vs : List ℕ) → length vs ≡ min (length ks) (length ws)
-    → fixedHold (drop (length vs) (segments ks ws)) (drop (length vs) vs) ≡ true
-unfolding fixedHold
-fixedHold-end ks ws vs e =
-    ap₂ fixedHold (ap (λ (k : ℕ). drop k (segments ks ws)) (e ∙ sym (length-segments ks ws)) ∙ drop-length (segments ks ws)) (drop-length vs)

@@ -174,9 +174,6 @@ placed b =
     let h3 = and-eq-true-iff (absent 3 ks) (apart fieldCount ks) .0 (h2 .1) in
     record { reference = h0 .0; pattern = h1 .0; identification = h2 .0; update = h3 .0; within = h3 .1 }
 
-pub within-record : (b : Body) → apart fieldCount (indices b) ≡ true
-within-record b = placed b .within
-
 -- what stands before the details stays
 record Fronted (b : Body) (x p i u : ℕ) (us : List ℕ) : Type 0 where
   reference : getD (inFields b x p i u us) 0 0 ≡ x

@@ -24,11 +24,11 @@ fn read_fields(body: Body, details: &[u8]) -> [u64; FIELDS]
     requires { ⌜ 11 ≤ length (now details) ⌝ }
     ensures { λ r. ⌜ r ≡ fieldsRead body (bits (now (details .entry))) ⌝ }
 {
-    let span = frame_fields::span_of(body);
+    let span = frame_bodies::span_of(body);
     let from = span.from;
     let to = span.to;
     let before = span.before;
-    let ws = frame_fields::field_widths(body);
+    let ws = frame_bodies::field_widths(body);
     let mut v = [0; FIELDS];
     bit_layouts::read_all(&details[before..], &ws[from..to], &mut v[from..to]);
     v
@@ -39,7 +39,7 @@ fn ones_hold(body: Body, details: &[u8]) -> bool
     requires { ⌜ 11 ≤ length (now details) ⌝ }
     ensures { λ r. ⌜ r ≡ onesHold body (bits (now (details .entry))) ⌝ }
 {
-    let span = frame_fields::span_of(body);
+    let span = frame_bodies::span_of(body);
     let before = 8 * span.before;
     let after = span.after;
     bit_layouts::segment_holds(1, before, bit_fields::read_wide(details, 0, before))
@@ -63,7 +63,7 @@ pub fn read_details(
     v[0] = reference;
     v[1] = pattern;
     v[2] = identification;
-    v[3] = frame_fields::own_update(body, update);
+    v[3] = frame_bodies::own_update(body, update);
     Details {
         holds,
         contents: frame_fields::record_of(&v),
@@ -75,7 +75,7 @@ fn write_ones(body: Body, part: &mut [u8])
     requires { ⌜ 11 ≤ length (now part) ⌝ }
     ensures { λ _. ⌜ now (part .exit) ≡ onesWritten body (now (part .entry)) ⌝ }
 {
-    let span = frame_fields::span_of(body);
+    let span = frame_bodies::span_of(body);
     let before = 8 * span.before;
     bit_fields::put(part, 0, before, numbers::pow2(before) - 1);
     let after = span.after;
@@ -88,11 +88,11 @@ pub fn write_details(body: Body, contents: Record, part: &mut [u8])
     ensures { λ _. ⌜ bits (now (part .exit)) ≡ packSegments (layout body) (bodyValues body contents) ++ drop 88 (bits (now (part .entry))) ⌝ }
 {
     write_ones(body, part);
-    let span = frame_fields::span_of(body);
+    let span = frame_bodies::span_of(body);
     let from = span.from;
     let to = span.to;
     let before = span.before;
-    let ws = frame_fields::field_widths(body);
+    let ws = frame_bodies::field_widths(body);
     let v = frame_fields::fields_of(contents);
     bit_layouts::write_all(&mut part[before..], &ws[from..to], &v[from..to]);
 }

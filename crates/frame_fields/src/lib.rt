@@ -1,16 +1,9 @@
-// A record and the list of its fields, and the table of the bodies: how many bits each field has in each. The fields of every body stand in the
-// order of the record, with bits fixed at 1 before and after them, so the widths tell where each stands.
+// A record and the list of its fields.
 ghost use mathlib.Core.Path.{_≡_};
 ghost use lib.ListN.{length};
-ghost use Rattle.frame.specs.Body.{ownUpdate};
-ghost use Rattle.frame.specs.Span.{spanOf};
-ghost use Rattle.frame.specs.Fields.{fieldCount, fields, recordFrom, fieldWidths};
-use frame::Body;
+ghost use Rattle.frame.specs.Fields.{fieldCount, fields, recordFrom};
 use frame::FIELDS;
 use frame::Record;
-use frame::Span;
-
-// ---- the record and the list of its fields
 
 // The fields, in the order of the record.
 pub fn fields_of(contents: Record) -> [u64; FIELDS]
@@ -62,63 +55,5 @@ pub fn record_of(v: &[u64]) -> Record
         depth: v[15],
         occurred: v[16],
         broadcaster: v[17],
-    }
-}
-
-// ---- the table of the bodies
-
-// How many bits each field of the record has in a body: 0 where it is not left free.
-pub fn field_widths(body: Body) -> [usize; FIELDS]
-    ensures { λ r. ⌜ r ≡ fieldWidths body ⌝ }
-{
-    match body {
-        Body::AreaPage => [1, 1, 3, 2, 31, 1, 56, 0, 0, 0, 0, 0, 0, 0, 0, 0, 0, 0],
-        Body::PlacePage => [1, 1, 3, 2, 31, 1, 0, 1, 1, 9, 1, 1, 10, 1, 11, 10, 10, 0],
-        Body::CancelPage => [1, 1, 3, 2, 31, 1, 0, 1, 1, 9, 1, 0, 0, 0, 0, 0, 0, 0],
-        Body::NoInformation => [1, 1, 3, 0, 0, 0, 0, 0, 0, 0, 0, 0, 0, 0, 0, 0, 0, 11],
-    }
-}
-
-// Where a body's fields stand.
-pub fn span_of(body: Body) -> Span
-    ensures { λ r. ⌜ r ≡ spanOf body ⌝ }
-{
-    match body {
-        Body::AreaPage => Span {
-            from: 4,
-            to: 7,
-            before: 0,
-            after: 0,
-        },
-        Body::PlacePage => Span {
-            from: 4,
-            to: 17,
-            before: 0,
-            after: 1,
-        },
-        Body::CancelPage => Span {
-            from: 4,
-            to: 11,
-            before: 0,
-            after: 44,
-        },
-        Body::NoInformation => Span {
-            from: 17,
-            to: 18,
-            before: 4,
-            after: 45,
-        },
-    }
-}
-
-// The update, and 0 where the body does not leave it free.
-pub fn own_update(body: Body, update: u64) -> u64
-    ensures { λ r. ⌜ r ≡ ownUpdate body update ⌝ }
-{
-    match body {
-        Body::AreaPage => update,
-        Body::PlacePage => update,
-        Body::CancelPage => update,
-        Body::NoInformation => 0,
     }
 }

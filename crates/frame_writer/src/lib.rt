@@ -1,55 +1,14 @@
-// The writer: a record's own refusals, and its frame.
+// The writer: the frame of a record.
 ghost use mathlib.Core.Path.{_≡_};
 ghost use mathlib.Core.List.{_++_};
 ghost use Prim.Native.Nat.{_≤_};
 ghost use lib.ListN.{length, drop};
 ghost use Rattle.bits.specs.Bits.{bits};
 ghost use Rattle.frame.specs.Identification.{startEndOf, updateOf};
-ghost use Rattle.frame.specs.Fields.{recordBody, tooWide};
 ghost use Rattle.frame_writer.specs.WriterParts.{frontValues, frontBits, detailBits};
-ghost use Rattle.frame.specs.Write.{recordRefusal, frameOf, writeNumber, writeOf};
-use frame::Body;
+ghost use Rattle.frame.specs.Write.{frameOf, writeNumber, writeOf};
 use frame::Class;
 use frame::Record;
-
-// ---- the record's own refusals
-
-fn record_body(contents: Record) -> Body
-    ensures { λ r. ⌜ r ≡ recordBody contents ⌝ }
-{
-    frame_kinds::body_of(
-        frame_kinds::class_of(contents.identification),
-        contents.page,
-        contents.kind,
-    )
-}
-
-// A field is wider than its place, or not 0 where none is left free.
-fn too_wide(contents: Record) -> bool
-    ensures { λ r. ⌜ r ≡ tooWide contents ⌝ }
-{
-    let ws = frame_fields::field_widths(record_body(contents));
-    let vs = frame_fields::fields_of(contents);
-    !bit_layouts::fits_all(&ws, &vs)
-}
-
-// The refusal that a record itself is given, 0 where it is legal.
-pub fn record_refusal(contents: Record) -> u8
-    ensures { λ r. ⌜ r ≡ recordRefusal contents ⌝ }
-{
-    if frame_kinds::is_undefined(frame_kinds::class_of(contents.identification)) {
-        return 6;
-    }
-    if too_wide(contents) {
-        return 10;
-    }
-    if frame_kinds::over_limit(record_body(contents), contents.latitude, contents.longitude) {
-        return 9;
-    }
-    0
-}
-
-// ---- the frame
 
 fn start_end(class: Class) -> u64
     ensures { λ r. ⌜ r ≡ startEndOf class ⌝ }
@@ -100,7 +59,7 @@ fn write_details(contents: Record, part: &mut [u8])
     requires { ⌜ 11 ≤ length (now part) ⌝ }
     ensures { λ _. ⌜ bits (now (part .exit)) ≡ detailBits contents ++ drop 88 (bits (now (part .entry))) ⌝ }
 {
-    frame_details::write_details(record_body(contents), contents, part);
+    frame_details::write_details(frame_legality::record_body(contents), contents, part);
 }
 
 // The frame of a record, whatever stood in the bytes before. The filler comes first, so that each later step
@@ -125,7 +84,7 @@ pub fn write(contents: Record, buffer: &mut [u8]) -> u8
     if buffer.len() != 26 {
         return 1;
     }
-    let number = record_refusal(contents);
+    let number = frame_legality::record_refusal(contents);
     if number != 0 {
         return number;
     }

@@ -1,3 +1,2 @@
 pub mod FieldsWritten
 pub mod Writing
-pub mod RecordRefusals

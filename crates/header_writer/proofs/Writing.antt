@@ -1,24 +1,22 @@
 -- A header's bytes, part after part. Assumes nothing.
 use mathlib.Core.Path.{_≡_, sym, ap, ap₂, _∙_}
-use mathlib.Core.Bool.{Bool, true, cond, not, _&&_}
+use mathlib.Core.Bool.{true, cond}
 use mathlib.Core.List.{List, [], _++_, append-nil, append-assoc}
 use Prim.Native.Nat.{ℕ, _*_}
 use native.Mathlib.Omega.{arith}
 use lib.Dec.{eqb}
 use lib.ListN.{length, take, drop, length-append, drop-of-length-le}
 use lib.Seq.{take-at, drop-at, take-all, take-add, length-take-le}
-use borrow.Author.Tests.{eq-eqb, ne-eqb, not-true}
+use borrow.Author.Tests.{eq-eqb, ne-eqb}
 use Rattle.bits.specs.Bits.{bitsOf, bits, bytes, Bytes}
 use Rattle.bits.specs.Field.{within, putOf}
-use Rattle.bits.specs.Layout.{fitb}
-use Rattle.bits.specs.Segment.{freeWidths, packSegments}
+use Rattle.bits.specs.Segment.{packSegments}
 use Rattle.bits.proofs.Bits.{length-bitsOf, length-bits, length-bytes, bytes-bits, bits-take}
 use Rattle.bits.proofs.Field.{bits-putOf}
 use Rattle.crc.specs.Crc.{crc32, crc32Of}
 use Rattle.crc.proofs.Crc.{crc32-bits}
 use Rattle.header.specs.Layout.{frontLayout, extensionLayout}
 use Rattle.header.specs.Fields.{frontFields, extensionFields}
-use Rattle.header.specs.Tests.{tooWide}
 use Rattle.header.specs.Header.{recordRefusal, sealed, headerOf, writeNumber, writeOf}
 use Rattle.header.specs.declared.Header.{Header}
 use Rattle.header.proofs.Sealed.{Bytes-take}
@@ -83,18 +81,3 @@ buffer-kept r s k e z = sym (ap (λ t. cond t (headerOf r) s) (ap (λ n. eqb n 0
 pub buffer-written : (r : Header) (s t : List ℕ) (k : ℕ) → k ≡ writeNumber r (length s) → k ≡ 0 → t ≡ headerOf r → t ≡ writeOf r s
 unfolding writeOf
 buffer-written r s t k e z f = f ∙ sym (ap (λ t. cond t (headerOf r) s) (ap (λ n. eqb n 0) (sym e) ∙ eq-eqb k 0 z))
-
--- ---- a field that is wider than its place
-
-module _ (r : Header) (ws vs : List ℕ) (fits : Bool) (ew : ws ≡ freeWidths frontLayout) (ev : vs ≡ frontFields (r .front)) (e : fits ≡ fitb ws vs) where
-  front-fits : fitb (freeWidths frontLayout) (frontFields (r .front)) ≡ fits
-  front-fits = sym (e ∙ ap₂ fitb ew ev)
-
-  pub front-wide : not fits ≡ true → true ≡ tooWide r
-  unfolding tooWide
-  front-wide h = sym (ap (λ t. not (t && fitb (freeWidths extensionLayout) (extensionFields (r .extension)))) (front-fits ∙ not-true fits h))
-
-  pub extension-wide : (us : List ℕ) (also : Bool) → fits ≡ true → us ≡ freeWidths extensionLayout → also ≡ fitb us (r .extension .ac) → not also ≡ tooWide r
-  unfolding tooWide extensionFields
-  extension-wide us also h eu f =
-      ap not (f ∙ ap (λ x. fitb x (r .extension .ac)) eu) ∙ sym (ap (λ t. not (t && fitb (freeWidths extensionLayout) (r .extension .ac))) (front-fits ∙ h))

@@ -1,4 +1,4 @@
-// Writing a header: the record's own refusals, and its bytes.
+// Writing a header: the bytes of a record.
 ghost use mathlib.Core.Path.{_≡_};
 ghost use lib.ListN.{length, take, drop};
 ghost use mathlib.Core.List.{_++_};
@@ -6,47 +6,10 @@ ghost use Rattle.bits.specs.Bits.{bytes};
 ghost use Rattle.bits.specs.Segment.{packSegments};
 ghost use Rattle.header.specs.Layout.{frontLayout, extensionLayout};
 ghost use Rattle.header.specs.Fields.{frontFields, extensionFields};
-ghost use Rattle.header.specs.Tests.{tooWide};
-ghost use Rattle.header.specs.Header.{recordRefusal, sealed, writeNumber, writeOf};
+ghost use Rattle.header.specs.Header.{sealed, writeNumber, writeOf};
 use header::Extension;
 use header::Front;
 use header::Header;
-
-// A field is wider than its place.
-fn too_wide(header: Header) -> bool
-    ensures { λ r. ⌜ r ≡ tooWide header ⌝ }
-{
-    let front = header_fields::front_fields(header.front);
-    let front_widths = header_tables::front_free();
-    if !bit_layouts::fits_all(&front_widths, &front) {
-        return true;
-    }
-    let extension = header.extension;
-    let ac = extension.ac;
-    let ac_widths = header_tables::extension_free();
-    !bit_layouts::fits_all(&ac_widths, &ac)
-}
-
-// A record's refusal, or 0 where it is legal.
-pub fn record_refusal(header: Header) -> u8
-    ensures { λ r. ⌜ r ≡ recordRefusal header ⌝ }
-{
-    if too_wide(header) {
-        return 10;
-    }
-    let front = header.front;
-    if front.packet >> 24 != 0x47 {
-        return 12;
-    }
-    if front.form != 1 {
-        return 14;
-    }
-    let states = front.states;
-    if header_arrays::has(&states, 3) {
-        return 15;
-    }
-    0
-}
 
 // Bytes 0 to 98.
 fn put_front(buffer: &mut [u8], front: Front)
@@ -87,7 +50,7 @@ pub fn write(header: Header, buffer: &mut [u8]) -> u8
     if buffer.len() != 188 {
         return 1;
     }
-    let number = record_refusal(header);
+    let number = header_legality::record_refusal(header);
     if number != 0 {
         return number;
     }

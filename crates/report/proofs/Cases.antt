@@ -5,11 +5,8 @@ use mathlib.Core.Logic.{_≢_}
 use Prim.Native.Nat.{ℕ}
 use lib.Ieee.{Float}
 use borrow.Author.Tests.{eq-eqb, ne-eqb}
-use Rattle.frame.specs.Identification.{classOf}
-use Rattle.frame.specs.Body.{bodyOf}
 use Rattle.frame.specs.Fields.{recordBody}
 use Rattle.frame.specs.Write.{Legal, recordRefusal}
-use Rattle.frame.specs.declared.Class.{Class}
 use Rattle.frame.specs.declared.Body.{Body}
 use Rattle.frame.specs.declared.Body.the-variants.{PlacePage}
 use Rattle.frame.specs.declared.Record.{Record}
@@ -39,7 +36,5 @@ refused r h = ap (λ (b : Bool). cond b (reportedBy (recordBody r) r) (Refused (
 pub report-refused : (r : Record) (n : ℕ) → n ≡ recordRefusal r → n ≢ 0 → Refused n ≡ reportOf r
 report-refused r n e h = ap Refused e ∙ sym (refused r (λ z. h (e ∙ z)))
 
-pub report-legal : (r : Record) (n : ℕ) (c : Class) (b : Body) {a : Reported} → n ≡ recordRefusal r → n ≡ 0 → c ≡ classOf (r .identification)
-    → b ≡ bodyOf c (r .page) (r .kind) → a ≡ reportedBy b r → a ≡ reportOf r
-report-legal r n c b e z k p q =
-    q ∙ ap (λ (x : Body). reportedBy x r) (p ∙ ap (λ (x : Class). bodyOf x (r .page) (r .kind)) k) ∙ sym (legal r (sym e ∙ z))
+pub report-legal : (r : Record) (n : ℕ) (b : Body) {a : Reported} → n ≡ recordRefusal r → n ≡ 0 → b ≡ recordBody r → a ≡ reportedBy b r → a ≡ reportOf r
+report-legal r n b e z p q = q ∙ ap (λ (x : Body). reportedBy x r) p ∙ sym (legal r (sym e ∙ z))

@@ -37,13 +37,9 @@ fn report_by(body: Body, message: Record) -> Reported
 pub fn report(message: Record) -> Reported
     ensures { λ r. ⌜ r ≡ reportOf message ⌝ }
 {
-    let refusal = frame_writer::record_refusal(message);
+    let refusal = frame_legality::record_refusal(message);
     if refusal != 0 {
         return Reported::Refused(refusal);
     }
-    let class = frame_kinds::class_of(message.identification);
-    report_by(
-        frame_kinds::body_of(class, message.page, message.kind),
-        message,
-    )
+    report_by(frame_legality::record_body(message), message)
 }

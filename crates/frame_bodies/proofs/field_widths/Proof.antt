@@ -1,11 +1,11 @@
--- `frame_fields::field_widths` meets its contract. Assumes nothing.
+-- `frame_bodies::field_widths` meets its contract. Assumes nothing.
 use Rattle.bits.specs.Segment.{freeWidths}
 use Rattle.frame.specs.Body.{row, layout}
 use Rattle.frame.specs.Fields.{scatter, fieldWidths}
 use mathlib.Core.Path.{ap, sym}
 use borrow.Author.Needs.{needs}
-use Rattle.frame_fields.proofs.field_widths.Statement.{statement}
-use Rattle.frame_fields.proofs.field_widths.Tie as tie
+use Rattle.frame_bodies.proofs.field_widths.Statement.{statement}
+use Rattle.frame_bodies.proofs.field_widths.Tie as tie
 
 enum-told : tie.Need-enum-told
 enum-told c = search needs

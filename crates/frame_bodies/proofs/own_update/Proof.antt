@@ -1,10 +1,10 @@
--- `frame_fields::own_update` meets its contract. Assumes nothing.
+-- `frame_bodies::own_update` meets its contract. Assumes nothing.
 use mathlib.Core.Path.{ap, sym}
 use Rattle.frame.specs.Body.{ownUpdate}
 use Rattle.frame.specs.declared.Body.{Body}
 use borrow.Author.Needs.{needs}
-use Rattle.frame_fields.proofs.own_update.Statement.{statement}
-use Rattle.frame_fields.proofs.own_update.Tie as tie
+use Rattle.frame_bodies.proofs.own_update.Statement.{statement}
+use Rattle.frame_bodies.proofs.own_update.Tie as tie
 
 enum-told : tie.Need-enum-told
 enum-told c = search needs

@@ -1,10 +1,10 @@
--- `frame_fields::span_of` meets its contract. Assumes nothing.
+-- `frame_bodies::span_of` meets its contract. Assumes nothing.
 use Rattle.frame.specs.Body.{row}
 use Rattle.frame.specs.Span.{spanOf}
 use mathlib.Core.Path.{ap, sym}
 use borrow.Author.Needs.{needs}
-use Rattle.frame_fields.proofs.span_of.Statement.{statement}
-use Rattle.frame_fields.proofs.span_of.Tie as tie
+use Rattle.frame_bodies.proofs.span_of.Statement.{statement}
+use Rattle.frame_bodies.proofs.span_of.Tie as tie
 
 enum-told : tie.Need-enum-told
 enum-told c = search needs

@@ -1,11 +1,11 @@
--- `header_writer::record_refusal` meets its contract. Assumes nothing.
+-- `header_legality::record_refusal` meets its contract. Assumes nothing.
 use mathlib.Core.Path.{_≡_, _∙_, sym}
 use mathlib.Core.Bool.{true, false}
 use Rattle.gf2.specs.Polynomial.{member}
-use Rattle.header_writer.proofs.RecordRefusals.{wide-refused, packet-sync-refused, form-refused, state-refused, none-refused}
+use Rattle.header_legality.proofs.RecordRefusals.{wide-refused, packet-sync-refused, form-refused, state-refused, none-refused}
 use borrow.Author.Needs.{needs}
-use Rattle.header_writer.proofs.record_refusal.Statement.{statement}
-use Rattle.header_writer.proofs.record_refusal.Tie as tie
+use Rattle.header_legality.proofs.record_refusal.Statement.{statement}
+use Rattle.header_legality.proofs.record_refusal.Tie as tie
 
 too-wide-requires : tie.Need-too-wide-requires
 too-wide-requires c κs = search needs

@@ -1,9 +1,9 @@
--- `header_writer::too_wide` meets its contract. Assumes nothing.
+-- `header_legality::too_wide` meets its contract. Assumes nothing.
 use borrow.Author.Tests.{not-false}
-use Rattle.header_writer.proofs.Writing.{front-wide, extension-wide}
+use Rattle.header_legality.proofs.Wide.{front-wide, extension-wide}
 use borrow.Author.Needs.{needs}
-use Rattle.header_writer.proofs.too_wide.Statement.{statement}
-use Rattle.header_writer.proofs.too_wide.Tie as tie
+use Rattle.header_legality.proofs.too_wide.Statement.{statement}
+use Rattle.header_legality.proofs.too_wide.Tie as tie
 
 front-fields-requires : tie.Need-front-fields-requires
 front-fields-requires c κs = search needs

@@ -11,19 +11,15 @@ record-refusal-requires c κs = search needs
 returns : tie.Need-returns
 returns c = report-refused _ _ (c .before .record-refusal .ensures) (λ e. omega (arith, e))
 
-class-of-requires : tie.Need-class-of-requires
-class-of-requires c κs = search needs
-
-body-of-requires : tie.Need-body-of-requires
-body-of-requires c κs = search needs
+record-body-requires : tie.Need-record-body-requires
+record-body-requires c κs = search needs
 
 report-by-requires : tie.Need-report-by-requires
 report-by-requires c κs = search needs
 
 returns-2 : tie.Need-returns-2
 returns-2 c =
-    report-legal _ _ _ _ (c .before .before .before .before .record-refusal .ensures) (omega arith) (c .before .before .class-of .ensures) (c .before .body-of .ensures)
-    (c .report-by .ensures)
+    report-legal _ _ _ (c .before .before .before .record-refusal .ensures) (omega arith) (c .before .record-body .ensures) (c .report-by .ensures)
 
 pub report-spec : {M : Type 1} → statement M
 report-spec =
@@ -31,7 +27,6 @@ report-spec =
     (tie.spec
     record-refusal-requires
     returns
-    class-of-requires
-    body-of-requires
+    record-body-requires
     report-by-requires
     returns-2)
