@@ -6,15 +6,11 @@
 //
 // An answer is a line: the case's number, what the operation tells on its way, a status, and the lent slice as it stands after the call, bytes after a colon, numbers after a
 // space each, all hexadecimal but the case's number. What stands n times in a row in the slice is written once, with `*n`, and of bytes a point.
-ghost use Prim.Native.Nat.{_+_, _/_, _≤_, _<_, min};
+ghost use Prim.Native.Nat.{_≤_, _<_};
 ghost use mathlib.Core.Path.{_≡_};
 ghost use mathlib.Core.Bool.{true, false};
-ghost use mathlib.Core.List.{_++_};
-ghost use lib.ListN.{length, take, drop, replicate};
-ghost use lib.Ieee.{nan, binary64, ofBits, toBits};
-ghost use Rattle.bits.specs.Bits.{value, bits};
+ghost use lib.ListN.{length};
 ghost use Rattle.bits.specs.Field.{getOf};
-ghost use Rattle.test_cases.specs.Numbers.{numbersOf};
 use libc::STDIN_FILENO;
 use libc::STDOUT_FILENO;
 
@@ -54,14 +50,6 @@ fn next_run() -> Run {
     }
 }
 
-fn fill(s: &mut [u8], byte: u8)
-    ensures { λ _. ⌜ now (s .exit) ≡ replicate (length (now (s .entry))) byte ⌝ }
-{
-    for i in 0..s.len() {
-        s[i] = byte;
-    }
-}
-
 // Fills the first n bytes of a slice from the next runs, if it has as many and they make up as many.
 fn read_runs(s: &mut [u8], n: usize) -> bool {
     let mut at = 0;
@@ -77,7 +65,7 @@ fn read_runs(s: &mut [u8], n: usize) -> bool {
         if n - at < count {
             return false;
         }
-        fill(&mut s[at..at + count], run.byte);
+        test_values::fill(&mut s[at..at + count], run.byte);
         at += count;
     }
     true
@@ -165,71 +153,6 @@ pub fn next_case(n: u64, first: &mut [u8], second: &mut [u8]) -> Case
     let input = bit_fields::get(&head, 8, 16) as usize;
     let lent = bit_fields::get(&head, 24, 16) as usize;
     read_slices(head[0], input, lent, first, second)
-}
-
-// Zeros; their number is said too, since a part of the array needs it.
-pub fn no_values() -> [u64; 508]
-    ensures { λ r. ⌜ 508 ≡ length r ⌝ }
-    ensures { λ r. ⌜ r ≡ replicate 508 0 ⌝ }
-{
-    [0; 508]
-}
-
-// The number that the eight bytes from place at on make up.
-fn number_at(s: &[u8], at: usize) -> u64
-    requires { ⌜ at + 8 ≤ length (now s) ⌝ }
-    ensures { λ r. ⌜ r ≡ value (bits (take 8 (drop at (now (s .entry))))) ⌝ }
-{
-    bit_fields::get(&s[at..at + 8], 0, 64)
-}
-
-// The numbers that bytes make up, eight each, as many as there are and have room; and how many that is.
-pub fn values(s: &[u8], out: &mut [u64]) -> usize
-    ensures { λ r. ⌜ r ≤ length (now (out .exit)) ⌝ }
-    ensures { λ r. ⌜ r ≡ min (length (now (s .entry)) / 8) (length (now (out .entry))) ⌝ }
-    ensures { λ r. ⌜ now (out .exit) ≡ numbersOf r (now (s .entry)) ++ drop r (now (out .entry)) ⌝ }
-{
-    let n = numbers::smaller(s.len() / 8, out.len());
-    for i in 0..n {
-        out[i] = number_at(s, 8 * i);
-    }
-    n
-}
-
-// The double with these bits. The language has one NaN and not its bits: which of three divisions or differences makes it goes by the sign and the highest bit of the fraction.
-pub fn double(bits: u64) -> f64
-    ensures { λ r. ⌜ r ≡ ofBits binary64 bits ⌝ }
-{
-    if bits % 0x8000000000000000 / 0x10000000000000 == 2047 {
-        if bits % 0x10000000000000 != 0 {
-            return not_a_number(bits);
-        }
-        return f64::from_bits(bits);
-    }
-    f64::from_bits(bits)
-}
-
-fn not_a_number(bits: u64) -> f64
-    ensures { λ r. ⌜ r ≡ nan ⌝ }
-{
-    let infinite = 1.0 / 0.0;
-    if 0x8000000000000000 <= bits {
-        return -(infinite - infinite);
-    }
-    if 0x7ff8000000000000 <= bits {
-        return infinite - infinite;
-    }
-    0.0 / 0.0
-}
-
-// A double's bits, those of one NaN for any.
-pub fn bits_of(x: f64) -> u64
-    ensures { λ r. ⌜ r ≡ toBits binary64 x ⌝ }
-{
-    if x == x {
-        return f64::to_bits(x);
-    }
-    0x7ff8000000000000
 }
 
 // ---- answers

@@ -1,104 +1,43 @@
-// Runs test cases of frames, records, reports and places: see `test_cases`. The cases, and what they must answer, come from rust/vectors.
+// Runs test cases of frames and records: see `test_cases`. The cases, and what they must answer, come from rust/vectors.
 use test_cases::Case;
 
-// ---- reports and places, doubles by their bits
-
-fn put_doubles(s: &[f64; 4]) {
-    for i in 0..4 {
-        test_cases::hex(test_cases::bits_of(s[i]));
-    }
-}
-
-// Lends so many of four doubles, and tells them all.
-fn report(fields: &[u64], before: f64, lent: usize) -> u64 {
-    let mut place = [before; 4];
-    let n = numbers::smaller(lent, 4);
-    let status = abi_place::report(fields, &mut place[0..n]) as u64;
-    put_doubles(&place);
-    status
-}
-
-fn desk(a: u64, b: u64, c: u64, lent: &mut [u64]) -> u64 {
-    abi_place::desk(
-        test_cases::double(a),
-        test_cases::double(b),
-        test_cases::double(c),
-        lent,
-    ) as u64
-}
-
-fn degrees(flag: u64, tenths: u64) -> u64 {
-    test_cases::bits_of(place_images::degrees(flag, tenths))
-}
-
-// What the desk makes of a longitude alone: its tenths, and 2048 for west; or 4096 and the refusal.
-fn longitude_of(bits: u64) -> u64 {
-    let mut fields = [0u64; 5];
-    let status = desk(0, bits, 0, &mut fields);
-    if status != 0 {
-        return 4096 | status;
-    }
-    fields[2] << 11 | fields[3]
-}
-
-// What the desk makes of the images of the tenths from a number on, with some of their bits turned over, into the lent numbers; the status is the sum of the images' bits.
-fn longitudes(flag: u64, first: u64, turned: u64, out: &mut [u64]) -> u64 {
-    let mut sum = 0;
-    for i in 0..out.len() {
-        let image = degrees(flag, std::num::wrapping_add_u64(first, i as u64));
-        out[i] = longitude_of(image ^ turned);
-        sum = std::num::wrapping_add_u64(sum, image);
-    }
-    sum
-}
-
-// ---- the operations
-
-// The status of an operation that lends numbers.
-fn status_of(case: Case, input: &[u8], fields: &[u64], lent: &mut [u64]) -> u64 {
-    let operation = case.operation;
-    match operation {
-        0 => abi_frame::frame_read(input, lent) as u64,
-        1 => abi_frame::warned(fields, case.a) as u64,
-        2 => report(fields, test_cases::double(case.a), case.b as usize),
-        3 => desk(case.a, case.b, case.c, lent),
-        4 => degrees(case.a, case.b),
-        5 => test_cases::bits_of(place_images::kilometres(case.a)),
-        _ => longitudes(case.a, case.b, case.c, lent),
-    }
-}
-
-fn lending(case: Case, input: &[u8], fields: &[u64], lent: &mut [u64]) -> bool {
-    test_cases::hex(status_of(case, input, fields, lent));
+// Answers the reader.
+fn frame_read(frame: &[u8], lent: &mut [u64]) -> bool {
+    test_cases::hex(abi_frame::frame_read(frame, lent) as u64);
     test_cases::end_values(lent)
 }
 
-fn answer(case: Case, input: &[u8], fields: &[u64], bytes: &[u8]) -> bool {
-    let mut lent = test_cases::no_values();
-    let n = test_cases::values(bytes, &mut lent);
-    lending(case, input, fields, &mut lent[0..n])
+fn read(frame: &[u8], bytes: &[u8]) -> bool {
+    let mut lent = test_values::no_values();
+    let n = test_values::values(bytes, &mut lent);
+    frame_read(frame, &mut lent[0..n])
 }
 
-// Answers the writer.
-fn frame_write(fields: &[u64], frame: &mut [u8]) -> bool {
-    test_cases::hex(abi_frame::frame_write(fields, frame) as u64);
-    test_cases::end_bytes(frame)
+// The status of an operation on a record.
+fn status_of(case: Case, fields: &[u64], lent: &mut [u8]) -> u64 {
+    let operation = case.operation;
+    match operation {
+        1 => abi_frame::warned(fields, case.a) as u64,
+        _ => abi_frame::frame_write(fields, lent) as u64,
+    }
 }
 
-fn dispatch(case: Case, input: &[u8], fields: &[u64], lent: &mut [u8]) -> bool {
-    if case.operation < 7 {
-        return answer(case, input, fields, lent);
-    }
-    if case.operation == 7 {
-        return frame_write(fields, lent);
-    }
-    test_cases::wrong().found
+// Answers it.
+fn answer(case: Case, input: &[u8], lent: &mut [u8]) -> bool {
+    let mut fields = test_values::no_values();
+    let n = test_values::values(input, &mut fields);
+    test_cases::hex(status_of(case, &fields[0..n], lent));
+    test_cases::end_bytes(lent)
 }
 
 fn run(case: Case, input: &[u8], lent: &mut [u8]) -> bool {
-    let mut fields = test_cases::no_values();
-    let n = test_cases::values(input, &mut fields);
-    dispatch(case, input, &fields[0..n], lent)
+    if case.operation == 0 {
+        return read(input, lent);
+    }
+    if case.operation < 3 {
+        return answer(case, input, lent);
+    }
+    test_cases::wrong().found
 }
 
 // Reads and answers case n; whether there may be a next one.

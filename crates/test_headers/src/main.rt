@@ -60,8 +60,8 @@ fn each_bit(header: &mut [u8], end: u64, again: u64) -> u64 {
 // ---- the operations
 
 fn header_write(numbers: &[u8], lent: &mut [u8]) -> u64 {
-    let mut fields = test_cases::no_values();
-    let n = test_cases::values(numbers, &mut fields);
+    let mut fields = test_values::no_values();
+    let n = test_values::values(numbers, &mut fields);
     abi_header::header_write(&fields[0..n], lent) as u64
 }
 
@@ -89,8 +89,8 @@ fn header_read(header: &[u8], lent: &mut [u64]) -> bool {
 }
 
 fn read(header: &[u8], bytes: &[u8]) -> bool {
-    let mut lent = test_cases::no_values();
-    let n = test_cases::values(bytes, &mut lent);
+    let mut lent = test_values::no_values();
+    let n = test_values::values(bytes, &mut lent);
     header_read(header, &mut lent[0..n])
 }
 

@@ -4,6 +4,7 @@ mod codes;
 mod frames;
 mod headers;
 mod laying;
+mod places;
 mod reading;
 mod receiver;
 
@@ -18,7 +19,7 @@ pub struct Program {
     cases: fn() -> Vec<Case>,
 }
 
-pub const PROGRAMS: [Program; 5] = [
+pub const PROGRAMS: [Program; 6] = [
     Program {
         name: "test_codes",
         operations: &codes::OPERATIONS,
@@ -28,6 +29,11 @@ pub const PROGRAMS: [Program; 5] = [
         name: "test_frames",
         operations: &frames::OPERATIONS,
         cases: frames::cases,
+    },
+    Program {
+        name: "test_places",
+        operations: &places::OPERATIONS,
+        cases: places::cases,
     },
     Program {
         name: "test_receiver",

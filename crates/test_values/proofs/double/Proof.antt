@@ -1,4 +1,4 @@
--- `test_cases::double` meets its contract: what has the bits of a NaN is not taken from its bits. Assumes nothing.
+-- `test_values::double` meets its contract: what has the bits of a NaN is not taken from its bits. Assumes nothing.
 use mathlib.Core.Path.{_≡_, _∙_, sym, ap}
 use mathlib.Core.Bool.{Bool}
 use mathlib.Core.Logic.{_≢_}
@@ -7,8 +7,8 @@ use lib.Dec.{leb}
 use lib.Ieee.{nan, binary64, top, ofFields, ofBits, nanBits}
 use borrow.Author.Needs.{needs}
 use borrow.Author.Tests.{eq-eqb, ne-eqb}
-use Rattle.test_cases.proofs.double.Statement.{statement}
-use Rattle.test_cases.proofs.double.Tie as tie
+use Rattle.test_values.proofs.double.Statement.{statement}
+use Rattle.test_values.proofs.double.Tie as tie
 
 fields-nan : (s : Bool) (t : ℕ) → t ≢ 0 → ofFields binary64 s 2047 t ≡ nan
 unfolding ofFields

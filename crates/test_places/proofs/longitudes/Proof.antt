@@ -1,10 +1,10 @@
--- `test_frames::longitudes` is safe and ends. Assumes nothing.
+-- `test_places::longitudes` is safe and ends. Assumes nothing.
 use borrow.Author.Needs.{needs}
 use mathlib.Core.Path.{_≡_}
 use Prim.Native.Nat.{_≤_, _-_}
 use lib.ListN.{length}
-use Rattle.test_frames.proofs.longitudes.Statement.{statement}
-use Rattle.test_frames.proofs.longitudes.Tie as tie
+use Rattle.test_places.proofs.longitudes.Statement.{statement}
+use Rattle.test_places.proofs.longitudes.Tie as tie
 
 abbrev Inv-loop : tie.InvT-loop
 Inv-loop flag first turned out₀ sum₀ i₀ i-end out sum i = (i ≤ i-end) × ((i-end ≡ length out₀) × (length out ≡ length out₀))

@@ -1,8 +1,8 @@
--- `test_cases::not_a_number` meets its contract. Assumes nothing.
+-- `test_values::not_a_number` meets its contract. Assumes nothing.
 use mathlib.Core.Path.{refl}
 use lib.Ieee.{ofBits, add, sub, neg, div}
-use Rattle.test_cases.proofs.not_a_number.Statement.{statement}
-use Rattle.test_cases.proofs.not_a_number.Tie as tie
+use Rattle.test_values.proofs.not_a_number.Statement.{statement}
+use Rattle.test_values.proofs.not_a_number.Tie as tie
 
 returns : tie.Need-returns
 unfolding ofBits add sub neg div

@@ -1,4 +1,4 @@
--- `test_cases::values` meets its contract. Assumes nothing.
+-- `test_values::values` meets its contract. Assumes nothing.
 use borrow.Author.Needs.{needs}
 use mathlib.Core.Path.{_≡_, _∙_, ap, refl}
 use mathlib.Core.List.{List, _++_}
@@ -6,10 +6,10 @@ use Prim.Native.Nat.{ℕ, _≤_, _-_}
 use native.Mathlib.Omega.{arith}
 use denote.Ref.{now}
 use lib.ListN.{length, drop, set, length-set}
-use Rattle.test_cases.specs.Numbers.{numbersOf}
-use Rattle.test_cases.proofs.Numbers.{numbers-next}
-use Rattle.test_cases.proofs.values.Statement.{statement}
-use Rattle.test_cases.proofs.values.Tie as tie
+use Rattle.test_values.specs.Numbers.{numbersOf}
+use Rattle.test_values.proofs.Numbers.{numbers-next}
+use Rattle.test_values.proofs.values.Statement.{statement}
+use Rattle.test_values.proofs.values.Tie as tie
 
 abbrev Inv-loop : tie.InvT-loop
 Inv-loop s out₀ n i₀ out i = (i ≤ n) × (length out ≡ length out₀) × (out ≡ numbersOf i s ++ drop i out₀)

@@ -1,4 +1,4 @@
--- `test_cases::number_at` meets its contract. Assumes nothing.
+-- `test_values::number_at` meets its contract. Assumes nothing.
 use mathlib.Core.Path.{_≡_, _∙_, ap}
 use Prim.Native.Nat.{ℕ, _+_, _-_}
 use native.Mathlib.Omega.{arith}
@@ -7,9 +7,9 @@ use lib.ListN.{length, take, drop, length-drop}
 use lib.Seq.{length-take-le}
 use Rattle.bits.specs.Bits.{value, bits}
 use borrow.Author.Needs.{needs}
-use Rattle.test_cases.proofs.Numbers.{eight-read}
-use Rattle.test_cases.proofs.number_at.Statement.{statement}
-use Rattle.test_cases.proofs.number_at.Tie as tie
+use Rattle.test_values.proofs.Numbers.{eight-read}
+use Rattle.test_values.proofs.number_at.Statement.{statement}
+use Rattle.test_values.proofs.number_at.Tie as tie
 
 returns : tie.Need-returns
 returns c =

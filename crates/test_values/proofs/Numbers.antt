@@ -11,7 +11,7 @@ use borrow.Author.Tests.{le-leb}
 use Rattle.bits.specs.Bits.{value, bits}
 use Rattle.bits.specs.Field.{getOf}
 use Rattle.bits.proofs.Bits.{length-bits}
-use Rattle.test_cases.specs.Numbers.{numbersOf}
+use Rattle.test_values.specs.Numbers.{numbersOf}
 
 -- the first k places hold p, and the next is stored
 stored-next : (p out : List ℕ) (k x : ℕ) → length p ≡ k → k < length out → set (p ++ drop k out) k x ≡ (p ++ x ∷ []) ++ drop (k + 1) out

@@ -1,8 +1,8 @@
--- `test_frames::put_doubles` is safe and ends. Assumes nothing.
+-- `test_places::put_doubles` is safe and ends. Assumes nothing.
 use borrow.Author.Needs.{needs}
 use Prim.Native.Nat.{_≤_, _-_}
-use Rattle.test_frames.proofs.put_doubles.Statement.{statement}
-use Rattle.test_frames.proofs.put_doubles.Tie as tie
+use Rattle.test_places.proofs.put_doubles.Statement.{statement}
+use Rattle.test_places.proofs.put_doubles.Tie as tie
 
 abbrev Inv-loop : tie.InvT-loop
 Inv-loop s i₀ i = i ≤ 4

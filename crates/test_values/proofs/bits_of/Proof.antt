@@ -1,12 +1,12 @@
--- `test_cases::bits_of` meets its contract: what differs from itself is a NaN. Assumes nothing.
+-- `test_values::bits_of` meets its contract: what differs from itself is a NaN. Assumes nothing.
 use borrow.Author.Needs.{needs}
 use mathlib.Core.Path.{_≡_, _∙_, refl, sym, ap, subst}
 use mathlib.Core.Bool.{Bool, true, false, not}
 use lib.Dec.{T}
 use lib.Ieee.{Float, nan, inf, fin, eq, ne, isNan, binary64, toBits}
 use lib.Ieee.Compare.{differs-from-itself}
-use Rattle.test_cases.proofs.bits_of.Statement.{statement}
-use Rattle.test_cases.proofs.bits_of.Tie as tie
+use Rattle.test_values.proofs.bits_of.Statement.{statement}
+use Rattle.test_values.proofs.bits_of.Tie as tie
 
 number : (x : Float) → eq x x ≡ true → T (not (isNan x))
 unfolding eq isNan

@@ -1,0 +1,70 @@
+/* Compiled once for each archive, with its own header file; CALLS names the table. */
+#include "calls.h"
+
+#include "gvozdyana.h"
+
+#include <string.h>
+
+#define EACH(n, call) \
+    uint32_t sum = 0; \
+    for (int i = 0; i < (n); i++) { \
+        sum += (call); \
+    } \
+    return sum
+
+static uint32_t frame_read(struct inputs *in)
+{
+    uint64_t record[GVZ_FRAME_VALUES];
+    EACH(RECORDS, gvz_frame_read(in->frames[i], 26, record, GVZ_FRAME_VALUES));
+}
+
+static uint32_t frame_write(struct inputs *in)
+{
+    EACH(RECORDS, gvz_frame_write(in->records[i], GVZ_FRAME_VALUES, in->frames[i], 26));
+}
+
+static uint32_t report(struct inputs *in)
+{
+    double place[3];
+    EACH(RECORDS, gvz_report(in->records[i], GVZ_FRAME_VALUES, place, 3));
+}
+
+static uint32_t follow(struct inputs *in)
+{
+    EACH(RECORDS, gvz_follow(0, in->frames[i], 26));
+}
+
+static uint32_t repair(struct inputs *in)
+{
+    uint8_t word[26];
+    EACH(RECORDS, gvz_repair(in->frames[i], 26, word, 26));
+}
+
+static uint32_t header_read(struct inputs *in)
+{
+    uint64_t record[HEADER_VALUES];
+    EACH(HEADERS, gvz_header_read(in->header, 188, record, HEADER_VALUES));
+}
+
+static uint32_t header_write(struct inputs *in)
+{
+    EACH(HEADERS, gvz_header_write(in->header_record, HEADER_VALUES, in->header, 188));
+}
+
+static uint32_t lay_in(struct inputs *in)
+{
+    uint8_t header[188];
+    memcpy(header, in->header, 188);
+    EACH(HEADERS, gvz_lay_in(header, 188, in->frames[i], 26));
+}
+
+static uint32_t take_out(struct inputs *in)
+{
+    uint8_t header[188];
+    memcpy(header, in->header, 188);
+    EACH(HEADERS, gvz_take_out(header, 188));
+}
+
+stretch *const CALLS[OPERATIONS] = {
+    frame_read, frame_write, report, follow, repair, header_read, header_write, lay_in, take_out,
+};
