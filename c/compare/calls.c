@@ -29,6 +29,11 @@ static uint32_t report(struct inputs *in)
     EACH(RECORDS, gvz_report(in->records[i], GVZ_FRAME_VALUES, place, 3));
 }
 
+static uint32_t warned(struct inputs *in)
+{
+    EACH(RECORDS, gvz_warned(in->records[i], GVZ_FRAME_VALUES, 15));
+}
+
 static uint32_t follow(struct inputs *in)
 {
     EACH(RECORDS, gvz_follow(0, in->frames[i], 26));
@@ -66,5 +71,5 @@ static uint32_t take_out(struct inputs *in)
 }
 
 stretch *const CALLS[OPERATIONS] = {
-    frame_read, frame_write, report, follow, repair, header_read, header_write, lay_in, take_out,
+    frame_read, frame_write, report, warned, follow, repair, header_read, header_write, lay_in, take_out,
 };

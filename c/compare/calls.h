@@ -16,7 +16,7 @@ struct inputs {
 /* A stretch of calls. The sum of the statuses, so that no call is left out. */
 typedef uint32_t stretch(struct inputs *);
 
-enum operation { READ, WRITE, REPORT, FOLLOW, REPAIR, HEADER_READ, HEADER_WRITE, LAY_IN, TAKE_OUT, OPERATIONS };
+enum operation { READ, WRITE, REPORT, WARNED, FOLLOW, REPAIR, HEADER_READ, HEADER_WRITE, LAY_IN, TAKE_OUT, OPERATIONS };
 
 extern stretch *const old_calls[OPERATIONS];
 extern stretch *const new_calls[OPERATIONS];
