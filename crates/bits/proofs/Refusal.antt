@@ -1,12 +1,13 @@
 -- Laws of tables of refusals.
 -- Assumes nothing.
 use mathlib.Core.Path.{_≡_, refl, sym, ap, _∙_}
-use mathlib.Core.Bool.{Bool, true, false, cond, and-eq-true-iff, _||_, true≢false}
+use mathlib.Core.Bool.{Bool, true, false, cond, and-eq-true-iff, not, _||_, _&&_, true≢false}
+use mathlib.Core.Logic.{_≢_}
 use mathlib.Core.List.{List, [], _∷_, _++_}
 use Prim.Native.Nat.{ℕ, _<_}
 use native.Mathlib.Omega.{arith}
-use lib.Dec.{ltb}
-use borrow.Author.Tests.{ltb-true, ne-eqb}
+use lib.Dec.{eqb, ltb}
+use borrow.Author.Tests.{ltb-true, ne-eqb, eqb-false, not-true}
 use Rattle.bits.specs.Refusal.{firstRefusal, orElse, NoneGiven, GivenFirst, numbered}
 
 -- two refusals are given: the answer is the first one's
@@ -78,6 +79,27 @@ refusal-first ((m, true) ∷ ts) n h e =
 refusal-first ((m, false) ∷ ts) n h e =
     let r = refusal-first ts n h e in
     record { before = (m, false) ∷ r .before; after = r .after; is = ap (λ (l : List (ℕ × Bool)). (m, false) ∷ l) (r .is); none = (refl, r .none) }
+
+-- ---- a number that only one line has
+
+-- no line has the number n
+abbrev pub lacks : ℕ → List (ℕ × Bool) → Bool
+lacks n [] = true
+lacks n ((m, given) ∷ ts) = not (eqb m n) && lacks n ts
+
+lacks-refusal : (ts : List (ℕ × Bool)) (n : ℕ) → 0 < n → lacks n ts ≡ true → firstRefusal ts ≢ n
+unfolding firstRefusal
+lacks-refusal [] n h l e = omega arith
+lacks-refusal ((m, true) ∷ ts) n h l e = eqb-false m n (not-true (eqb m n) (and-eq-true-iff (not (eqb m n)) (lacks n ts) .0 l .0)) e
+lacks-refusal ((m, false) ∷ ts) n h l e = lacks-refusal ts n h (and-eq-true-iff (not (eqb m n)) (lacks n ts) .0 l .1) e
+
+-- where it is the answer, that line's test is met
+pub refusal-met : (ts us : List (ℕ × Bool)) (n : ℕ) (given : Bool) → 0 < n → lacks n ts ≡ true → lacks n us ≡ true → firstRefusal (ts ++ (n, given) ∷ us) ≡ n → given ≡ true
+unfolding firstRefusal
+refusal-met [] us n true h l k e = refl
+refusal-met [] us n false h l k e = absurd (lacks-refusal us n h k e)
+refusal-met ((m, true) ∷ ts) us n given h l k e = absurd (eqb-false m n (not-true (eqb m n) (and-eq-true-iff (not (eqb m n)) (lacks n ts) .0 l .0)) e)
+refusal-met ((m, false) ∷ ts) us n given h l k e = refusal-met ts us n given h (and-eq-true-iff (not (eqb m n)) (lacks n ts) .0 l .1) k e
 
 -- ---- a table in two parts
 

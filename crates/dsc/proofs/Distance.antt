@@ -14,6 +14,7 @@ use Rattle.gf2.proofs.Sum.{xor-false, length-add, add-none, add-assoc, add-same
 use Rattle.bits.specs.Bits.{digit}
 use Rattle.dsc.specs.Code.{CodeWord, count, weight, dist}
 use Rattle.dsc.specs.CheckTable.{rowsOf, coefficient, syndrome, failures}
+use Rattle.dsc.proofs.Weight.{weight-zeros}
 use Rattle.dsc.proofs.Word.{length-word}
 use Rattle.dsc.proofs.CheckRows.{coefficient-out, coefficient-cons, onRow, syndrome-nil, syndrome-cons, syndrome-false, syndrome-add, word-even, rows-same, shared-one, shared-all}
 
@@ -139,12 +140,7 @@ pub dist-none : (u w : List Bool) → length u ≡ length w → dist u w ≡ 0 �
 dist-none u w h e = add-none u w h (weight-none (add u w) e ∙ ap zeros (length-add u w))
 
 pub dist-same : (w : List Bool) → dist w w ≡ 0
-unfolding digit
-dist-same w = ap weight (add-same w) ∙ zero-weight (length w)
-  where
-    zero-weight : (n : ℕ) → weight (zeros n) ≡ 0
-    zero-weight zero = refl
-    zero-weight (suc n) = omega (arith, zero-weight n)
+dist-same w = ap weight (add-same w) ∙ weight-zeros (length w)
 
 -- a word hit in the places of e differs from itself in as many places
 pub dist-hit : (e w : List Bool) → length e ≡ length w → dist (add e w) w ≡ weight e

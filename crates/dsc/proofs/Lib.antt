@@ -3,6 +3,7 @@ pub mod CheckRows
 pub mod TableRows
 pub mod Incidence
 pub mod EvenRows
+pub mod Weight
 pub mod Distance
 pub mod Decoding
 pub mod Answers

@@ -4,16 +4,14 @@ use mathlib.Core.Bool.{Bool, true, false, cond}
 use mathlib.Core.List.{List, [], _∷_, _++_}
 use mathlib.Core.Logic.{_≢_}
 use Prim.Native.Nat.{ℕ, zero, suc, _+_, _-_, _/_, _%_, _^_, _<_}
-use native.Mathlib.Nat.{mod-eq-of-lt, mod-one, mod-lt}
 use native.Mathlib.Omega.{arith}
 use lib.Bits.{bitXor}
-use lib.Count.{ones, ones-cat}
+use lib.Count.{ones}
 use lib.Dec.{eqb, ltb}
 use lib.ListN.{length, getD, length-append}
-use lib.Pow.{pow-pos, mod-pow-add}
 use borrow.Author.Tests.{eq-eqb, ne-eqb, eqb-true, eqb-false, ltb-true, ltb-false}
 use Rattle.bits.specs.Bits.{digit, odd, bitsOf}
-use Rattle.bits.proofs.Bits.{length-bitsOf, getD-bitsOf, digit-odd}
+use Rattle.bits.proofs.Bits.{length-bitsOf, getD-bitsOf}
 use Rattle.gf2.specs.Polynomial.{add}
 use Rattle.gf2.proofs.Sum.{add-append}
 use Rattle.lanes.specs.Lane.{lane, bitAt}
@@ -22,6 +20,7 @@ use Rattle.lanes.proofs.Number.{add-bitsOf}
 use Rattle.dsc.specs.Code.{count, weight}
 use Rattle.dsc.specs.CheckTable.{coefficient, upto}
 use Rattle.dsc.proofs.CheckRows.{coefficient-at, coefficient-out}
+use Rattle.dsc.proofs.Weight.{weight-append, weight-whole}
 use Rattle.dsc_words.specs.Words.{wordOf, held}
 use Rattle.dsc_words.specs.declared.Word.{Word}
 
@@ -121,31 +120,6 @@ add-wordOf a b c d e f =
     ∙ ap₂ _++_ (add-bitsOf 64 b e) (add-bitsOf 64 a d))
 
 -- ---- weight
-
-weight-append : (x y : List Bool) → weight (x ++ y) ≡ weight x + weight y
-weight-append [] y = omega arith
-weight-append (a ∷ x) y = omega (arith, weight-append x y)
-
-ones-digit : (x : ℕ) → x < 2 → ones x ≡ x
-unfolding ones
-ones-digit zero h = refl
-ones-digit (suc zero) h = refl
-ones-digit (suc (suc x)) h = absurd (omega arith)
-
-weight-bitsOf : (k v : ℕ) → weight (bitsOf k v) ≡ ones (v % 2 ^ k)
-unfolding bitsOf
-weight-bitsOf zero v = sym (ap ones (mod-one v) ∙ ones-digit 0 (omega arith))
-weight-bitsOf (suc k) v =
-    let first : digit (odd (v / 2 ^ k)) ≡ ones (v / 2 ^ k % 2) =
-    digit-odd (v / 2 ^ k) ∙ sym (ones-digit (v / 2 ^ k % 2) (omega arith)) in
-    ap₂ _+_ first (weight-bitsOf k v)
-    ∙ sym
-    (ap (λ n. ones (v % 2 ^ n)) (let e : suc k ≡ 1 + k = omega arith in e)
-    ∙ ap ones (mod-pow-add v 1 k)
-    ∙ ones-cat k (v / 2 ^ k % 2) (v % 2 ^ k) (mod-lt v (pow-pos k)))
-
-weight-whole : (k v : ℕ) → v < 2 ^ k → weight (bitsOf k v) ≡ ones v
-weight-whole k v h = weight-bitsOf k v ∙ ap ones (mod-eq-of-lt h)
 
 pub weight-wordOf : (low middle high : ℕ) → low < 2 ^ 64 → middle < 2 ^ 64 → high < 2 ^ 59 → weight (wordOf low middle high) ≡ ones low + ones middle + ones high
 unfolding wordOf
