@@ -13,7 +13,7 @@ use Rattle.frame.specs.Identification.{classOf, isUndefined}
 use Rattle.bits.specs.Segment.{freeWidths}
 use Rattle.frame.specs.Body.{row, layout}
 use Rattle.frame.specs.Fields.{scatter, fieldWidths}
-use Rattle.frame.specs.Read.{readOf, readingNumber}
+use Rattle.frame.specs.Read.{noDamage, readOf, readingNumber}
 use Rattle.frame.specs.Write.{Legal, recordRefusal, frameOf}
 use Rattle.frame.specs.declared.Class.{Class}
 use Rattle.frame.specs.declared.Class.the-variants as class
@@ -176,7 +176,7 @@ unfolding announcing
 some-by i k u legal c e =
     record {
       frame = frameOf (announcing i u);
-      warns = record { message = announcing i u; damage = record { repaired = 0 }; read = demand2 .comes-back (announcing i u) legal; class = c; kind = e; update = refl };
+      warns = record { message = announcing i u; damage = noDamage; read = demand2 .comes-back (announcing i u) legal; class = c; kind = e; update = refl };
     }
 
 some : (k : Kind) (u : ℕ) → u < 4 → Some k u
@@ -189,7 +189,7 @@ unfolding announcing recordRefusal firstRefusal classOf row layout scatter field
 silence-some =
     record {
       frame = frameOf (announcing 7 0);
-      silences = record { message = announcing 7 0; damage = record { repaired = 0 }; read = demand2 .comes-back (announcing 7 0) refl; class = refl };
+      silences = record { message = announcing 7 0; damage = noDamage; read = demand2 .comes-back (announcing 7 0) refl; class = refl };
     }
 
 pub following : Following

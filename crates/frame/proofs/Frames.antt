@@ -1,12 +1,12 @@
 -- The frame of a legal record: its parts, and what is read of its word. Assumes nothing.
-use mathlib.Core.Path.{_≡_, refl, sym, ap, ap₂, _∙_}
+use mathlib.Core.Path.{_≡_, refl, sym, ap, ap₂, _∙_, subst}
 use mathlib.Core.Bool.{Bool, true, false, cond, not}
 use mathlib.Core.Logic.{_≢_}
 use mathlib.Core.List.{List, [], _∷_, _++_, append-assoc}
 use Prim.Native.Nat.{ℕ, zero, suc, _+_, _^_, _≤_, _<_}
 use native.Mathlib.Omega.{arith}
 use lib.Dec.{eqb}
-use lib.ListN.{length, take, drop, length-append}
+use lib.ListN.{length, take, drop, length-append, length-replicate}
 use borrow.Author.Tests.{eq-eqb, eqb-true}
 use Rattle.bits.specs.Bits.{value, bitsOf, bits}
 use Rattle.bits.specs.Field.{fieldAt}
@@ -16,18 +16,24 @@ use Rattle.bits.specs.Refusal.{firstRefusal, NoneGiven}
 use Rattle.bits.proofs.Bits.{length-bitsOf, length-bytes, bits-bytes, value-bitsOf-fit, value-zeros}
 use Rattle.bits.proofs.Segment.{length-packSegments, unpack-packSegments, fixed-packSegments}
 use Rattle.bits.proofs.Refusal.{refusal-later, refusal-none, none-refusal}
-use Rattle.gf2.specs.Polynomial.{zeros}
+use Rattle.gf2.specs.Polynomial.{zeros, add}
+use Rattle.gf2.proofs.Sum.{add-zeros}
 use Rattle.crc.specs.Crc.{crc10, crc10Of}
 use Rattle.crc.proofs.Crc.{length-crc10}
-use Rattle.dsc.specs.Code.{CodeWord, parityOf}
+use Rattle.dsc.specs.Code.{CodeWord, weight, parityOf}
 use Rattle.dsc.specs.Repair.{protected, wordBytes}
 use Rattle.dsc.proofs.Word.{length-word, length-parity, parity-word}
 use Rattle.dsc.proofs.Answers.{length-wordBytes, protected-wordBytes}
-use Rattle.frame.specs.Pattern.{patternWord, patternOf}
+use Rattle.dsc.proofs.Weight.{weight-zeros}
+use Rattle.sync_pattern.specs.Pattern.{patternBits, syncOf}
+use Rattle.sync_pattern.specs.declared.Sync.the-variants.{Fits}
+use Rattle.sync_pattern.proofs.Patterns.{length-pattern}
+use Rattle.sync_pattern.proofs.Promises.{pattern-test}
 use Rattle.frame.specs.Identification.{classOf, startEndOf, updateOf, flagsWrong, isUndefined}
 use Rattle.frame.specs.Body.{bodyOf, layout, ownUpdate}
 use Rattle.frame.specs.Fields.{fields, fieldWidths, bodyValues, recordBody, overLimit, recordOf}
-use Rattle.frame.specs.Read.{identificationIn, bodyIn, detailsIn, valuesIn, recordIn, afterRepair}
+use Rattle.frame.specs.Read.{identificationIn, bodyIn, detailsIn, valuesIn, recordIn, syncBits, syncIn, afterRepair}
+use Rattle.frame.specs.Promises.{SameOutside, HitPart}
 use Rattle.frame.specs.Write.{Legal, announced, messageBits, frameOf}
 use Rattle.frame.specs.declared.Class.{Class}
 use Rattle.frame.specs.declared.Class.the-variants.{Warning, Silent, Undefined}
@@ -63,21 +69,21 @@ record-word r = parity-word (messageBits r) (length-message r)
 pub length-frame : (r : Record) → length (frameOf r) ≡ 26
 unfolding frameOf
 length-frame r =
-    length-bytes 26 (bitsOf 1 (r .reference) ++ (bitsOf 16 (patternWord (r .pattern)) ++ (messageBits r ++ (parityOf (messageBits r) ++ zeros 4))))
+    length-bytes 26 (bitsOf 1 (r .reference) ++ (patternBits (r .pattern) ++ (messageBits r ++ (parityOf (messageBits r) ++ zeros 4))))
 
-pub bits-frame : (r : Record) → bits (frameOf r) ≡ bitsOf 1 (r .reference) ++ (bitsOf 16 (patternWord (r .pattern)) ++ (wordOf r ++ zeros 4))
+pub bits-frame : (r : Record) → bits (frameOf r) ≡ bitsOf 1 (r .reference) ++ (patternBits (r .pattern) ++ (wordOf r ++ zeros 4))
 unfolding frameOf
 bits-frame r =
     let m = messageBits r in
     let p = parityOf m in
-    bits-bytes 26 (bitsOf 1 (r .reference) ++ (bitsOf 16 (patternWord (r .pattern)) ++ (m ++ (p ++ zeros 4))))
-    (simp (length-append, length-bitsOf) (omega (arith, length-message r, length-parity m (length-message r))))
-    ∙ ap (λ (l : List Bool). bitsOf 1 (r .reference) ++ (bitsOf 16 (patternWord (r .pattern)) ++ l)) (sym (append-assoc m p (zeros 4)))
+    bits-bytes 26 (bitsOf 1 (r .reference) ++ (patternBits (r .pattern) ++ (m ++ (p ++ zeros 4))))
+    (simp (length-append, length-bitsOf, length-pattern) (omega (arith, length-message r, length-parity m (length-message r))))
+    ∙ ap (λ (l : List Bool). bitsOf 1 (r .reference) ++ (patternBits (r .pattern) ++ l)) (sym (append-assoc m p (zeros 4)))
 
-pub parts-frame : (r : Record) → FrameParts (frameOf r) (bitsOf 1 (r .reference)) (bitsOf 16 (patternWord (r .pattern))) (wordOf r) (zeros 4)
+pub parts-frame : (r : Record) → FrameParts (frameOf r) (bitsOf 1 (r .reference)) (patternBits (r .pattern)) (wordOf r) (zeros 4)
 parts-frame r =
-    frame-parts (frameOf r) (bitsOf 1 (r .reference)) (bitsOf 16 (patternWord (r .pattern))) (wordOf r) (zeros 4) (length-frame r)
-    (length-bitsOf 1 (r .reference)) (length-bitsOf 16 (patternWord (r .pattern))) (length-word (wordOf r) (record-word r)) (bits-frame r)
+    frame-parts (frameOf r) (bitsOf 1 (r .reference)) (patternBits (r .pattern)) (wordOf r) (zeros 4) (length-frame r)
+    (length-bitsOf 1 (r .reference)) (length-pattern (r .pattern)) (length-word (wordOf r) (record-word r)) (bits-frame r)
 
 -- ---- the fields that every legal record has
 
@@ -197,47 +203,29 @@ found-accepted r l =
 
 -- ---- what stands outside the word
 
--- each pattern's bits are that pattern
-pub pattern-word : (p : ℕ) → p < 2 → patternOf (patternWord p) ≡ p
-unfolding patternOf
-pattern-word zero h = refl
-pattern-word (suc zero) h = refl
-pattern-word (suc (suc p)) h = absurd (omega arith)
-
--- and bits that are a pattern are that pattern's
-pub word-pattern : (n : ℕ) → patternOf n ≢ 2 → (patternWord (patternOf n) ≡ n) × (patternOf n < 2)
-unfolding patternOf
-word-pattern n h = go (eqb n (patternWord 0)) (eqb n (patternWord 1)) refl refl
-  where
-    go : (s t : Bool) → eqb n (patternWord 0) ≡ s → eqb n (patternWord 1) ≡ t → (patternWord (patternOf n) ≡ n) × (patternOf n < 2)
-    go true t es et = rw es (sym (eqb-true n (patternWord 0) es), omega arith)
-    go false true es et = rw (es, et) (sym (eqb-true n (patternWord 1) et), omega arith)
-    go false false es et = absurd (h (rw (es, et)))
-
-patternWord-lt : (p : ℕ) → patternWord p < 65536
-patternWord-lt p = go (eqb p 0)
-  where
-    go : (t : Bool) → cond t (patternWord 0) (patternWord 1) < 65536
-    go true = omega arith
-    go false = omega arith
-
-pub record Outside (r : Record) (f : List ℕ) : Type 0 where
+-- n bits of B1 to B16 differ from the record's pattern
+pub record Outside (r : Record) (n : ℕ) (f : List ℕ) : Type 0 where
   pub reference : fieldAt f 0 1 ≡ r .reference
-  pub pattern : patternOf (fieldAt f 1 16) ≡ r .pattern
+  pub sync : syncIn f ≡ Fits (r .pattern) n
   pub filler : fieldAt f 204 4 ≡ 0
 
--- a frame whose bits outside B17 to B203 are those of a record's frame
-pub outside : (r : Record) → Fit (fieldWidths (recordBody r)) (fields r) → (f : List ℕ) → length f ≡ 26
-    → take 17 (bits f) ≡ take 17 (bits (frameOf r)) → drop 204 (bits f) ≡ drop 204 (bits (frameOf r)) → Outside r f
-outside r fit f h before after =
+-- a frame whose bits outside B1 to B203 are those of a record's frame, and whose B1 to B16 are that frame's, hit in the places of s
+pub outside : (r : Record) → Fit (fieldWidths (recordBody r)) (fields r) → (f : List ℕ) (s : List Bool) → SameOutside f (frameOf r)
+    → HitPart 3 16 s (syncBits f) (syncBits (frameOf r)) → Outside r (weight s) f
+outside r fit f s same hit =
     let q = heads (recordBody r) r fit in
     let p = parts-frame r in
-    let front : (k n : ℕ) → k + n ≤ 17 → take n (drop k (bits f)) ≡ take n (drop k (bits (frameOf r))) =
-    λ k n j. sym (take-drop-take n k 17 (bits f) j) ∙ ap (λ (b : List Bool). take n (drop k b)) before ∙ take-drop-take n k 17 (bits (frameOf r)) j in
-    let sync : fieldAt f 1 16 ≡ patternWord (r .pattern) =
-    ap value (front 1 16 (omega arith) ∙ p .pattern) ∙ value-bitsOf-fit 16 (patternWord (r .pattern)) (patternWord-lt (r .pattern)) in
     record {
-      reference = ap value (front 0 1 (omega arith) ∙ p .reference) ∙ value-bitsOf-fit 1 (r .reference) (q .reference);
-      pattern = ap patternOf sync ∙ pattern-word (r .pattern) (q .pattern);
-      filler = ap value (ap (take 4) after ∙ p .filler) ∙ value-zeros 4;
+      reference = ap value (same .reference ∙ p .reference) ∙ value-bitsOf-fit 1 (r .reference) (q .reference);
+      sync = ap syncOf (hit .hit ∙ ap (add s) (p .pattern)) ∙ pattern-test .sent (r .pattern) s (q .pattern) (hit .places) (hit .few);
+      filler = ap value (ap (take 4) (same .filler) ∙ p .filler) ∙ value-zeros 4;
     }
+
+-- a part that was not hit
+pub not-hit : (limit n : ℕ) (u : List Bool) → HitPart limit n (zeros n) u u
+not-hit limit n u = record { places = length-replicate n false; few = omega (arith, weight-zeros n); hit = sym (add-zeros n u) }
+
+pub own-outside : (r : Record) → Fit (fieldWidths (recordBody r)) (fields r) → Outside r 0 (frameOf r)
+own-outside r fit =
+    subst (λ (n : ℕ). Outside r n (frameOf r)) (weight-zeros 16)
+    (outside r fit (frameOf r) (zeros 16) (record { reference = refl; filler = refl }) (not-hit 3 16 (syncBits (frameOf r))))

@@ -2,94 +2,101 @@
 use mathlib.Core.Path.{_≡_, refl, sym, ap, ap₂, _∙_, subst}
 use mathlib.Core.Bool.{Bool, true, false, not, cond}
 use mathlib.Core.Logic.{_≢_}
-use mathlib.Core.List.{List, _++_, append-assoc}
+use mathlib.Core.List.{List, [], _∷_, _++_, append-assoc}
 use Prim.Native.Nat.{ℕ, _+_, _≤_, _<_}
 use native.Mathlib.Omega.{arith}
 use lib.Dec.{eqb}
 use lib.ListN.{length, take, drop, getD, length-append, length-drop}
 use lib.Seq.{take-all, take-at, drop-at, length-take-le}
-use borrow.Author.Tests.{ne-eqb, eqb-true, eqb-false}
+use borrow.Author.Tests.{eq-eqb, ne-eqb, eqb-true, eqb-false}
 use Rattle.bits.specs.Bits.{odd, bitsOf, bits, bytes, Bytes}
 use Rattle.bits.specs.Field.{fieldAt}
 use Rattle.bits.proofs.Bits.{value-take-lt, length-bytes, bits-bytes, bits-inj, bytes-Bytes}
+use Rattle.bits.proofs.Refusal.{refusal-here, refusal-later, refusal-met}
 use Rattle.gf2.specs.Polynomial.{zeros, add}
 use Rattle.gf2.proofs.Sum.{length-add}
 use Rattle.dsc.specs.Code.{CodeWord, weight, dist, parityOf}
-use Rattle.dsc.specs.Repair.{protected, wordBytes, repairedTo, repairOf}
+use Rattle.dsc.specs.Repair.{protected, wordBytes, repairedTo, numberOf, repairOf}
 use Rattle.dsc.specs.declared.Answer.{Answer}
 use Rattle.dsc.proofs.Promises.{demand3}
 use Rattle.dsc.proofs.Word.{length-word}
 use Rattle.dsc.proofs.Distance.{dist-none, dist-same}
 use Rattle.dsc.proofs.Answers.{length-protected, protected-wordBytes, repair-found}
-use Rattle.frame.specs.Pattern.{patternWord, patternOf}
+use Rattle.sync_pattern.specs.Pattern.{patternBits, differingFrom, isNeither, fittingPattern}
+use Rattle.sync_pattern.specs.Promises.{Far, Fitting}
+use Rattle.sync_pattern.proofs.Patterns.{differing-dist, fitting-none}
+use Rattle.sync_pattern.proofs.Promises.{pattern-test}
 use Rattle.frame.specs.Body.{row}
 use Rattle.frame.specs.Fields.{recordBody}
-use Rattle.frame.specs.Read.{identificationIn, bodyIn, valuesIn, recordIn, frameRefusal, placesIn, judgeOf, readOf, readingNumber, readingPlaces, readingFields, cleanOf}
+use Rattle.frame.specs.Read.{identificationIn, bodyIn, valuesIn, recordIn, syncBits, syncIn, afterRepair, frameRefusal, placesIn, noDamage, judgeOf, readOf, readingNumber, readingPlaces, readingDiffering, readingFields, cleanOf}
 use Rattle.frame.specs.Area.{warnedIn}
 use Rattle.frame.specs.Write.{Legal, messageBits, recordRefusal, frameOf, writeNumber, writeOf}
-use Rattle.frame.specs.Promises.{SameUnprotected, HitFrame, hitFrame, Mended, Told, Demand2, AreasOnAir, BitNumbers}
+use Rattle.frame.specs.Promises.{HitFrame, hitFrame, Mended, Told, Demand2, AreasOnAir, BitNumbers}
 use Rattle.frame.specs.declared.Record.{Record}
 use Rattle.frame.specs.declared.Damage.{Damage}
 use Rattle.frame.specs.declared.Reading.{Reading}
 use Rattle.frame.specs.declared.Reading.the-variants.{Accepted, Refused}
-use Rattle.frame.proofs.Parts.{outside-split, part-split, part-bits, frame-bits}
-use Rattle.frame.proofs.Bodies.{layout-sum, legal-sound, heads, taken}
-use Rattle.frame.proofs.Frames.{wordOf, record-word, length-frame, parts-frame, found-record, found-accepted, word-pattern, outside}
+use Rattle.frame.proofs.Parts.{part-bits, length-part, frame-bits, filler-whole, frame-split, frame-parts}
+use Rattle.frame.proofs.Bodies.{layout-sum, legal-sound, taken}
+use Rattle.frame.proofs.Frames.{wordOf, record-word, length-frame, parts-frame, found-record, found-accepted, Outside, outside, own-outside}
 use Rattle.frame.proofs.Areas.{warned-on-air}
 use Rattle.frame.proofs.Readings.{Judged, accepted-judged, judged-accepted, judged-places, judged-dist, judged-read, read-legal, read-word}
 
 -- ---- written and read
 
--- a frame that has what stands outside the word of a legal record's frame, and whose word is repaired to that record's
-read-record : (r : Record) (f : List ℕ) (n : ℕ) → Legal r → length f ≡ 26 → SameUnprotected f (frameOf r) → repairOf f ≡ repairedTo (wordOf r) n
-    → readOf f ≡ Accepted r (record { repaired = n })
-read-record r f n l h s e =
+-- a frame that has what stands outside the word of a legal record's frame, m bits of the pattern apart, and whose word is repaired to that record's
+read-record : (r : Record) (f : List ℕ) (m n : ℕ) → Legal r → length f ≡ 26 → Outside r m f → repairOf f ≡ repairedTo (wordOf r) n
+    → readOf f ≡ Accepted r (record { repaired = n; differing = m })
+read-record r f m n l h o e =
     let fit = legal-sound r l .fit in
-    let o = outside r fit f h (s .before) (s .after) in
-    let q = heads (recordBody r) r fit in
+    let d : Damage = record { repaired = n; differing = m } in
     let j : Judged f =
     record {
       word = wordOf r;
       places = n;
+      pattern = r .pattern;
+      differing = m;
       size = h;
       filler = o .filler;
-      pattern = λ z. omega (arith, o .pattern, q .pattern);
+      sync = o .sync;
       code-word = record-word r;
       repaired = e;
       tests = found-accepted r l;
     } in
     judged-read f j
-    ∙ ap₂ (λ (x p : ℕ). Accepted (recordIn x p (wordBytes (wordOf r))) (record { repaired = n })) (o .reference) (o .pattern)
-    ∙ ap (λ (y : Record). Accepted y (record { repaired = n })) (found-record r fit)
+    ∙ ap (λ (x : ℕ). Accepted (recordIn x (r .pattern) (wordBytes (wordOf r))) d) (o .reference)
+    ∙ ap (λ (y : Record). Accepted y d) (found-record r fit)
 
-hit-comes-back : (r : Record) (e : List Bool) (f : List ℕ) → Legal r → HitFrame r e f → readOf f ≡ Accepted r (record { repaired = weight e })
-hit-comes-back r e f l h =
-    read-record r f (weight e) l (h .size) (h .outside)
-    (demand3 .gives-sent-word f (wordOf r) e (h .size) (record-word r) (h .places) (h .few) (h .word ∙ ap (add e) (parts-frame r .word)))
+hit-comes-back : (r : Record) (s e : List Bool) (f : List ℕ) → Legal r → HitFrame r s e f
+    → readOf f ≡ Accepted r (record { repaired = weight e; differing = weight s })
+hit-comes-back r s e f l h =
+    let w = h .word in
+    read-record r f (weight s) (weight e) l (h .size) (outside r (legal-sound r l .fit) f s (h .outside) (h .sync))
+    (demand3 .gives-sent-word f (wordOf r) e (h .size) (record-word r) (w .places) (w .few) (w .hit ∙ ap (add e) (parts-frame r .word)))
 
-hit-some : (r : Record) (e : List Bool) → length e ≡ 187 → weight e ≤ 8 → HitFrame r e (hitFrame r e)
-unfolding hitFrame protected
-hit-some r e n k =
-    let g = bits (frameOf r) in
-    let f = hitFrame r e in
-    let x = take 17 g in
-    let w = add e (protected (frameOf r)) in
-    let z = drop 204 g in
-    let lg : length g ≡ 208 = frame-bits (frameOf r) (length-frame r) in
-    let lx : length x ≡ 17 = length-take-le 17 g (omega arith) in
-    let lw : length w ≡ 187 = length-add e (protected (frameOf r)) ∙ length-protected (frameOf r) (length-frame r) in
-    let b : bits f ≡ x ++ (w ++ z) =
-    bits-bytes 26 (x ++ (w ++ z)) (length-append x (w ++ z) ∙ omega (arith, length-append w z, length-drop 204 g)) in
+hit-some : (r : Record) (s e : List Bool) → length s ≡ 16 → weight s ≤ 3 → length e ≡ 187 → weight e ≤ 8 → HitFrame r s e (hitFrame r s e)
+unfolding hitFrame
+hit-some r s e ns ks ne ke =
+    let g = frameOf r in
+    let f = hitFrame r s e in
+    let x = take 1 (bits g) in
+    let y = add s (syncBits g) in
+    let w = add e (protected g) in
+    let z = drop 204 (bits g) in
+    let lg : length (bits g) ≡ 208 = frame-bits g (length-frame r) in
+    let lx : length x ≡ 1 = length-part 0 1 (bits g) (omega arith) in
+    let ly : length y ≡ 16 = length-add s (syncBits g) ∙ length-part 1 16 (bits g) (omega arith) in
+    let lw : length w ≡ 187 = length-add e (protected g) ∙ length-protected g (length-frame r) in
+    let b : bits f ≡ x ++ (y ++ (w ++ z)) =
+    bits-bytes 26 (x ++ (y ++ (w ++ z)))
+    (length-append x (y ++ (w ++ z)) ∙ omega (arith, length-append y (w ++ z), length-append w z, length-drop 204 (bits g))) in
+    let size : length f ≡ 26 = length-bytes 26 (x ++ (y ++ (w ++ z))) in
+    let p = frame-parts f x y w z size lx ly lw b in
     record {
-      size = length-bytes 26 (x ++ (w ++ z));
-      outside =
-          record {
-            before = ap (take 17) b ∙ take-at x (w ++ z) 17 lx;
-            after = ap (drop 204) (b ∙ sym (append-assoc x w z)) ∙ drop-at (x ++ w) z 204 (length-append x w ∙ omega arith);
-          };
-      places = n;
-      few = k;
-      word = ap (λ (l : List Bool). take 187 (drop 17 l)) b ∙ ap (take 187) (drop-at x (w ++ z) 17 lx) ∙ take-at w z 187 lw;
+      size = size;
+      outside = record { reference = p .reference; filler = sym (filler-whole f size) ∙ p .filler };
+      sync = record { places = ns; few = ks; hit = p .pattern };
+      word = record { places = ne; few = ke; hit = p .word };
     }
 
 -- a record's own frame needs no repair
@@ -99,57 +106,39 @@ repair-own r =
     let d : dist (protected f) (wordOf r) ≡ 0 = ap (λ (w : List Bool). dist w (wordOf r)) (parts-frame r .word) ∙ dist-same (wordOf r) in
     repair-found f (length-frame r) (wordOf r) (record-word r) (omega arith) ∙ ap (repairedTo (wordOf r)) d
 
-pub comes-back : (r : Record) → Legal r → readOf (frameOf r) ≡ Accepted r (record { repaired = 0 })
-comes-back r l = read-record r (frameOf r) 0 l (length-frame r) (record { before = refl; after = refl }) (repair-own r)
+pub comes-back : (r : Record) → Legal r → readOf (frameOf r) ≡ Accepted r noDamage
+comes-back r l = read-record r (frameOf r) 0 0 l (length-frame r) (own-outside r (legal-sound r l .fit)) (repair-own r)
 
 written-apart : (r s : Record) → Legal r → Legal s → frameOf r ≡ frameOf s → r ≡ s
 written-apart r s lr ls e = let same = sym (comes-back r lr) ∙ ap readOf e ∙ comes-back s ls in cc
 
 -- ---- read and written
 
--- what is known of an accepted frame
-record Known (f : List ℕ) (r : Record) (n : ℕ) : Type 0 where
-  judged : Judged f
-  is : recordIn (fieldAt f 0 1) (patternOf (fieldAt f 1 16)) (wordBytes (judged .word)) ≡ r
-  count : judged .places ≡ n
-
-pub refused-read : (f : List ℕ) → frameRefusal f ≢ 0 → readOf f ≡ Refused (frameRefusal f)
-unfolding readOf
-refused-read f n = rw (ne-eqb (frameRefusal f) 0 n)
-
-known : (f : List ℕ) (r : Record) (d : Damage) → readOf f ≡ Accepted r d → Known f r (d .repaired)
-known f r d e = go (eqb (frameRefusal f) 0) refl
-  where
-    go : (t : Bool) → eqb (frameRefusal f) 0 ≡ t → Known f r (d .repaired)
-    go true q =
-        let j = accepted-judged f (eqb-true (frameRefusal f) 0 q) in
-        let same = sym (judged-read f j) ∙ e in
-        let damage : record { repaired = j .places } ≡ d = cc in
-        record { judged = j; is = cc; count = ap (λ (x : Damage). x .repaired) damage }
-    go false q =
-        let same = sym (refused-read f (eqb-false (frameRefusal f) 0 q)) ∙ e in
-        let z : _≡_ {A = ℕ} 0 1 = cc in absurd (omega arith)
-
 module _ (f : List ℕ) (j : Judged f) where
-  -- the record that is read
+  -- the record that is read, and what was damaged
   recorded : Record
-  recorded = recordIn (fieldAt f 0 1) (patternOf (fieldAt f 1 16)) (wordBytes (j .word))
+  recorded = recordIn (fieldAt f 0 1) (j .pattern) (wordBytes (j .word))
+
+  damaged : Damage
+  damaged = record { repaired = j .places; differing = j .differing }
+
+  recorded-sync : Fitting (syncBits f) (j .pattern) (j .differing)
+  recorded-sync = pattern-test .fits-only (syncBits f) (j .pattern) (j .differing) (j .sync)
 
   recorded-legal : Legal recorded
   unfolding recorded
   recorded-legal =
-      read-legal (j .word) (j .code-word) (j .tests) (fieldAt f 0 1) (patternOf (fieldAt f 1 16))
-      (value-take-lt 1 (drop 0 (bits f))) (word-pattern (fieldAt f 1 16) (j .pattern) .1)
+      read-legal (j .word) (j .code-word) (j .tests) (fieldAt f 0 1) (j .pattern) (value-take-lt 1 (drop 0 (bits f))) (recorded-sync .pattern)
 
   recorded-word : wordOf recorded ≡ j .word
   unfolding recorded
-  recorded-word = read-word (j .word) (j .code-word) (j .tests) (fieldAt f 0 1) (patternOf (fieldAt f 1 16))
+  recorded-word = read-word (j .word) (j .code-word) (j .tests) (fieldAt f 0 1) (j .pattern)
 
-  recorded-taken : (recorded .reference ≡ fieldAt f 0 1) × (recorded .pattern ≡ patternOf (fieldAt f 1 16))
+  recorded-taken : (recorded .reference ≡ fieldAt f 0 1) × (recorded .pattern ≡ j .pattern)
   unfolding recorded
   recorded-taken =
       let c = wordBytes (j .word) in
-      let y = taken (bodyIn c) (fieldAt f 0 1) (patternOf (fieldAt f 1 16)) (identificationIn c) (fieldAt c 19 2) (valuesIn c) in
+      let y = taken (bodyIn c) (fieldAt f 0 1) (j .pattern) (identificationIn c) (fieldAt c 19 2) (valuesIn c) in
       (y .reference, y .pattern)
 
   recorded-frame : frameOf recorded ≡ cleanOf f
@@ -160,53 +149,74 @@ module _ (f : List ℕ) (j : Judged f) where
       let w : wordOf recorded ≡ protected (repairOf f .word) =
       recorded-word
       ∙ sym (ap (λ (a : Answer). protected (a .word)) (j .repaired) ∙ protected-wordBytes (j .word) (length-word (j .word) (j .code-word))) in
-      ap₂ (λ (x y : ℕ). bytes 26 (bitsOf 1 x ++ (bitsOf 16 (patternWord y) ++ (m ++ (p ++ zeros 4))))) (recorded-taken .0) (recorded-taken .1)
-      ∙ ap (λ (l : List Bool). bytes 26 (bitsOf 1 (fieldAt f 0 1) ++ (bitsOf 16 (patternWord (patternOf (fieldAt f 1 16))) ++ l)))
+      ap₂ (λ (x y : ℕ). bytes 26 (bitsOf 1 x ++ (patternBits y ++ (m ++ (p ++ zeros 4))))) (recorded-taken .0)
+      (recorded-taken .1 ∙ sym (ap fittingPattern (j .sync)))
+      ∙ ap (λ (l : List Bool). bytes 26 (bitsOf 1 (fieldAt f 0 1) ++ (patternBits (fittingPattern (syncIn f)) ++ l)))
       (sym (append-assoc m p (zeros 4)) ∙ ap (_++ zeros 4) w)
 
-  recorded-mended : Mended f (frameOf recorded) (j .places)
-  unfolding bitsOf odd
+  recorded-mended : Mended f (frameOf recorded) (recorded .pattern) damaged
+  unfolding bitsOf odd damaged
   recorded-mended =
       let r = recorded in
       let b = bits f in
-      let g = bits (frameOf r) in
       let lb : length b ≡ 208 = frame-bits f (j .size) in
-      let lg : length g ≡ 208 = frame-bits (frameOf r) (length-frame r) in
       let p = parts-frame r in
-      let reference : take 1 (drop 0 g) ≡ take 1 (drop 0 b) = p .reference ∙ ap (bitsOf 1) (recorded-taken .0) ∙ part-bits 0 1 b (omega arith) in
-      let pattern : take 16 (drop 1 g) ≡ take 16 (drop 1 b) =
-      p .pattern ∙ ap (bitsOf 16) (ap patternWord (recorded-taken .1) ∙ word-pattern (fieldAt f 1 16) (j .pattern) .0) ∙ part-bits 1 16 b (omega arith) in
+      let y = recorded-sync in
+      let sync : differingFrom (j .pattern) (syncBits f) ≡ dist (syncBits f) (syncBits (frameOf r)) =
+      differing-dist (j .pattern) (syncBits f) ∙ ap (dist (syncBits f)) (ap patternBits (sym (recorded-taken .1)) ∙ sym (p .pattern)) in
       let filler : take 4 (drop 204 b) ≡ zeros 4 = sym (part-bits 204 4 b (omega arith)) ∙ ap (bitsOf 4) (j .filler) in
       record {
         size = length-frame r;
         outside =
             record {
-              before = part-split 0 1 16 g ∙ ap₂ (λ (x y : List Bool). x ++ y) reference pattern ∙ sym (part-split 0 1 16 b);
-              after =
-                  sym (take-all 4 (drop 204 g) (omega (arith, length-drop 204 g)))
-                  ∙ p .filler ∙ sym filler ∙ take-all 4 (drop 204 b) (omega (arith, length-drop 204 b));
+              reference = p .reference ∙ ap (bitsOf 1) (recorded-taken .0) ∙ part-bits 0 1 b (omega arith);
+              filler = sym (filler-whole (frameOf r) (length-frame r)) ∙ p .filler ∙ sym filler ∙ filler-whole f (j .size);
             };
+        pattern = p .pattern;
+        differing = record { places = y .differing ∙ sync; few = y .few };
         word = subst CodeWord (sym (p .word)) (record-word r);
-        places = judged-dist f j .0 ∙ ap (dist (protected f)) (sym (p .word ∙ recorded-word));
-        few = judged-dist f j .1;
+        repaired = record { places = judged-dist f j .0 ∙ ap (dist (protected f)) (sym (p .word ∙ recorded-word)); few = judged-dist f j .1 };
       }
+
+-- what is known of an accepted frame
+record Known (f : List ℕ) (r : Record) (d : Damage) : Type 0 where
+  judged : Judged f
+  is : recorded f judged ≡ r
+  damage : damaged f judged ≡ d
+
+pub refused-read : (f : List ℕ) → frameRefusal f ≢ 0 → readOf f ≡ Refused (frameRefusal f)
+unfolding readOf
+refused-read f n = rw (ne-eqb (frameRefusal f) 0 n)
+
+known : (f : List ℕ) (r : Record) (d : Damage) → readOf f ≡ Accepted r d → Known f r d
+unfolding recorded damaged
+known f r d e = go (eqb (frameRefusal f) 0) refl
+  where
+    go : (t : Bool) → eqb (frameRefusal f) 0 ≡ t → Known f r d
+    go true q =
+        let j = accepted-judged f (eqb-true (frameRefusal f) 0 q) in
+        let same = sym (judged-read f j) ∙ e in
+        record { judged = j; is = cc; damage = cc }
+    go false q =
+        let same = sym (refused-read f (eqb-false (frameRefusal f) 0 q)) ∙ e in
+        let z : _≡_ {A = ℕ} 0 1 = cc in absurd (omega arith)
 
 module _ (f : List ℕ) (r : Record) (d : Damage) (e : readOf f ≡ Accepted r d) where
   read-is-legal : Legal r
-  unfolding recorded
   read-is-legal = let k = known f r d e in subst Legal (k .is) (recorded-legal f (k .judged))
 
   written-again : frameOf r ≡ cleanOf f
-  unfolding recorded
   written-again = let k = known f r d e in ap frameOf (sym (k .is)) ∙ recorded-frame f (k .judged)
 
-  mended : Mended f (cleanOf f) (d .repaired)
+  mended : Mended f (cleanOf f) (r .pattern) d
   mended =
       let k = known f r d e in
-      subst (λ (n : ℕ). Mended f (cleanOf f) n) (k .count)
-      (subst (λ (g : List ℕ). Mended f g (k .judged .places)) (recorded-frame f (k .judged)) (recorded-mended f (k .judged)))
+      let j = k .judged in
+      subst (λ (y : Record). Mended f (cleanOf f) (y .pattern) d) (k .is)
+      (subst (λ (n : Damage). Mended f (cleanOf f) (recorded f j .pattern) n) (k .damage)
+      (subst (λ (g : List ℕ). Mended f g (recorded f j .pattern) (damaged f j)) (recorded-frame f j) (recorded-mended f j)))
 
-  mended-read : readOf (cleanOf f) ≡ Accepted r (record { repaired = 0 })
+  mended-read : readOf (cleanOf f) ≡ Accepted r noDamage
   mended-read = ap readOf (sym written-again) ∙ comes-back r read-is-legal
 
   by-bit : (k : ℕ) → r .identification ≤ 3 → r .page ≡ 0 → k < 56 → warnedIn r k ≡ not (getD (bits (cleanOf f)) (56 + k) false)
@@ -216,27 +226,48 @@ module _ (f : List ℕ) (r : Record) (d : Damage) (e : readOf f ≡ Accepted r d
   accepted = judged-accepted f (known f r d e .judged)
 
   verdict : judgeOf f ≡ record { number = 0; repaired = d .repaired }
-  unfolding judgeOf
-  verdict = let k = known f r d e in rw (accepted, judged-places f (k .judged), k .count)
+  unfolding judgeOf damaged
+  verdict =
+      let k = known f r d e in
+      let n : placesIn f ≡ d .repaired = judged-places f (k .judged) ∙ ap (λ (x : Damage). x .repaired) (k .damage) in rw (accepted, n)
 
 bytes-frame : (r : Record) → Bytes (frameOf r)
 unfolding frameOf
 bytes-frame r = bytes-Bytes 26 _
 
-undamaged : (f : List ℕ) (r : Record) → Bytes f → readOf f ≡ Accepted r (record { repaired = 0 }) → frameOf r ≡ f
+undamaged : (f : List ℕ) (r : Record) → Bytes f → readOf f ≡ Accepted r noDamage → frameOf r ≡ f
 undamaged f r h e =
-    let d : Damage = record { repaired = 0 } in
-    let m = mended f r d e in
+    let m = mended f r noDamage e in
     let g = cleanOf f in
-    let lf = known f r d e .judged .size in
-    let w : protected f ≡ protected g =
-    dist-none (protected f) (protected g) (length-protected f lf ∙ sym (length-protected g (m .size))) (sym (m .places)) in
+    let lf = known f r noDamage e .judged .size in
+    let lb : length (bits f) ≡ 208 = frame-bits f lf in
+    let lc : length (bits g) ≡ 208 = frame-bits g (m .size) in
+    let s : syncBits g ≡ syncBits f =
+    sym (dist-none (syncBits f) (syncBits g) (length-part 1 16 (bits f) (omega arith) ∙ sym (length-part 1 16 (bits g) (omega arith))) (sym (m .differing .places))) in
+    let w : protected g ≡ protected f =
+    sym (dist-none (protected f) (protected g) (length-protected f lf ∙ sym (length-protected g (m .size))) (sym (m .repaired .places))) in
     let b : bits g ≡ bits f =
-    outside-split g
-    ∙ ap₂ (λ (x y : List Bool). x ++ (protected g ++ y)) (m .outside .before) (m .outside .after)
-    ∙ ap (λ (x : List Bool). take 17 (bits f) ++ (x ++ drop 204 (bits f))) (sym w)
-    ∙ sym (outside-split f) in
-    written-again f r d e ∙ bits-inj g f (subst Bytes (written-again f r d e) (bytes-frame r)) h (m .size ∙ sym lf) b
+    frame-split g (m .size)
+    ∙ ap₂ (λ (x y : List Bool). x ++ (y ++ (protected g ++ take 4 (drop 204 (bits g))))) (m .outside .reference) s
+    ∙ ap₂ (λ (x y : List Bool). take 1 (bits f) ++ (syncBits f ++ (x ++ take 4 y))) w (m .outside .filler)
+    ∙ sym (frame-split f lf) in
+    written-again f r noDamage e ∙ bits-inj g f (subst Bytes (written-again f r noDamage e) (bytes-frame r)) h (m .size ∙ sym lf) b
+
+-- ---- refusal 3
+
+no-pattern : (f : List ℕ) → length f ≡ 26 → fieldAt f 204 4 ≡ 0 → Far (syncBits f) → frameRefusal f ≡ 3
+unfolding frameRefusal
+no-pattern f h z far =
+    refusal-later 1 _ (ap not (eq-eqb (length f) 26 h))
+    ∙ refusal-later 2 _ (ap not (eq-eqb (fieldAt f 204 4) 0 z))
+    ∙ refusal-here 3 _ (ap isNeither (pattern-test .neither (syncBits f) far))
+
+no-pattern-only : (f : List ℕ) → frameRefusal f ≡ 3 → Far (syncBits f)
+unfolding frameRefusal
+no-pattern-only f e =
+    let first : List (ℕ × Bool) = (1, not (eqb (length f) 26)) ∷ (2, not (eqb (fieldAt f 204 4) 0)) ∷ [] in
+    let later : List (ℕ × Bool) = (4, not (eqb (numberOf (repairOf f)) 0)) ∷ afterRepair (repairOf f .word) in
+    pattern-test .neither-only (syncBits f) (fitting-none (syncIn f) (refusal-met first later 3 (isNeither (syncIn f)) (omega arith) refl refl e))
 
 -- ---- judged and read
 
@@ -264,8 +295,9 @@ judged-refused f n e = go (eqb (frameRefusal f) 0) refl
 
 -- ---- what is told
 
-told-as : (a b : Reading) → a ≡ b → Told a (readingNumber b) (readingPlaces b) (readingFields b)
-told-as a b e = record { by-number = ap readingNumber e; by-places = ap readingPlaces e; by-fields = ap readingFields e }
+told-as : (a b : Reading) → a ≡ b → Told a (readingNumber b) (readingPlaces b) (readingDiffering b) (readingFields b)
+told-as a b e =
+    record { by-number = ap readingNumber e; by-places = ap readingPlaces e; by-differing = ap readingDiffering e; by-fields = ap readingFields e }
 
 number-told : (f : List ℕ) → readingNumber (readOf f) ≡ frameRefusal f
 unfolding judgeOf
@@ -293,10 +325,12 @@ demand2 =
       comes-back = comes-back;
       hit-comes-back = hit-comes-back;
       told = λ r l. told-as _ _ (comes-back r l);
-      hit-told = λ r e f l h. told-as _ _ (hit-comes-back r e f l h);
+      hit-told = λ r s e f l h. told-as _ _ (hit-comes-back r s e f l h);
       hit-some = hit-some;
       number-told = number-told;
       refused-told = λ f n. told-as _ _ (refused-read f n);
+      no-pattern = no-pattern;
+      no-pattern-only = no-pattern-only;
       written-again = written-again;
       mended = mended;
       undamaged = undamaged;

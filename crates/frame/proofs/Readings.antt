@@ -24,11 +24,14 @@ use Rattle.dsc.specs.declared.Answer.{Answer}
 use Rattle.dsc.proofs.Word.{length-word, parity-only}
 use Rattle.dsc.proofs.Decoding.{Nearest, one, none, nearest}
 use Rattle.dsc.proofs.Answers.{length-protected, length-wordBytes, protected-wordBytes, repair-found, repair-none}
-use Rattle.frame.specs.Pattern.{patternOf}
+use Rattle.sync_pattern.specs.Pattern.{isNeither, fittingPattern, fittingDiffering}
+use Rattle.sync_pattern.specs.declared.Sync.{Sync}
+use Rattle.sync_pattern.specs.declared.Sync.the-variants.{Fits}
+use Rattle.sync_pattern.proofs.Patterns.{fitting}
 use Rattle.frame.specs.Identification.{classOf, startEndOf, updateOf, isUndefined}
 use Rattle.frame.specs.Body.{bodyOf, layout, ownUpdate}
 use Rattle.frame.specs.Fields.{fields, fieldWidths, bodyValues, recordBody, overLimit}
-use Rattle.frame.specs.Read.{identificationIn, classIn, bodyIn, detailsIn, valuesIn, recordIn, beforeRepair, afterRepair, frameRefusal, placesIn, readOf}
+use Rattle.frame.specs.Read.{identificationIn, classIn, bodyIn, detailsIn, valuesIn, recordIn, syncIn, beforeRepair, afterRepair, frameRefusal, placesIn, readOf}
 use Rattle.frame.specs.Write.{Legal, announced, messageBits}
 use Rattle.frame.specs.declared.Class.{Class}
 use Rattle.frame.specs.declared.Body.{Body}
@@ -40,13 +43,15 @@ use Rattle.frame.proofs.Frames.{length-message, wordOf}
 
 -- ---- accepted frames
 
--- a frame that no refusal is given to: its word, and the number of places repaired
+-- a frame that no refusal is given to: its word, the number of places repaired, its pattern, the number of bits that differ from it
 pub record Judged (f : List ℕ) : Type 0 where
   pub word : List Bool
   pub places : ℕ
+  pub pattern : ℕ
+  pub differing : ℕ
   pub size : length f ≡ 26
   pub filler : fieldAt f 204 4 ≡ 0
-  pub pattern : patternOf (fieldAt f 1 16) ≢ 2
+  pub sync : syncIn f ≡ Fits pattern differing
   pub code-word : CodeWord word
   pub repaired : repairOf f ≡ repairedTo word places
   pub tests : NoneGiven (afterRepair (wordBytes word))
@@ -62,16 +67,18 @@ accepted-judged f e =
     let number = eqb-true (numberOf (repairOf f)) 0 (not-false (eqb (numberOf (repairOf f)) 0) (h .1 .1 .1 .0)) in
     go size number (h .1 .0) (h .1 .1 .0) (h .1 .1 .1 .1) (nearest (protected f) (length-protected f size))
   where
-    go : length f ≡ 26 → numberOf (repairOf f) ≡ 0 → not (eqb (fieldAt f 204 4) 0) ≡ false → eqb (patternOf (fieldAt f 1 16)) 2 ≡ false
+    go : length f ≡ 26 → numberOf (repairOf f) ≡ 0 → not (eqb (fieldAt f 204 4) 0) ≡ false → isNeither (syncIn f) ≡ false
         → NoneGiven (afterRepair (repairOf f .word)) → Nearest (protected f) → Judged f
     go size number filler pattern tests (one c k d) =
         let e = repair-found f size c k d in
         record {
           word = c;
           places = dist (protected f) c;
+          pattern = fittingPattern (syncIn f);
+          differing = fittingDiffering (syncIn f);
           size = size;
           filler = eqb-true (fieldAt f 204 4) 0 (not-false (eqb (fieldAt f 204 4) 0) filler);
-          pattern = eqb-false (patternOf (fieldAt f 1 16)) 2 pattern;
+          sync = fitting (syncIn f) pattern;
           code-word = k;
           repaired = e;
           tests = subst (λ (a : Answer). NoneGiven (afterRepair (a .word))) e tests;
@@ -83,27 +90,28 @@ same-answer : (c w : List Bool) (m n : ℕ) → repairedTo c m ≡ repairedTo w 
 same-answer c w m n e = let o = ap (λ (a : Answer). a .outcome) e in (cc, ap (λ (a : Answer). a .word) e)
 
 -- a frame whose word is repaired is judged by the repaired word
-pub repaired-refusal : (f : List ℕ) (w : List Bool) (n : ℕ) → length f ≡ 26 → fieldAt f 204 4 ≡ 0 → patternOf (fieldAt f 1 16) ≢ 2 → repairOf f ≡ repairedTo w n
+pub repaired-refusal : (f : List ℕ) (w : List Bool) (n : ℕ) → length f ≡ 26 → fieldAt f 204 4 ≡ 0 → isNeither (syncIn f) ≡ false → repairOf f ≡ repairedTo w n
     → frameRefusal f ≡ firstRefusal (afterRepair (wordBytes w))
 unfolding frameRefusal
 repaired-refusal f w n size filler pattern e =
     refusal-later 1 _ (ap not (eq-eqb (length f) 26 size))
     ∙ refusal-later 2 _ (ap not (eq-eqb (fieldAt f 204 4) 0 filler))
-    ∙ refusal-later 3 _ (ne-eqb (patternOf (fieldAt f 1 16)) 2 pattern)
+    ∙ refusal-later 3 _ pattern
     ∙ refusal-later 4 _ (ap (λ (a : Answer). not (eqb (numberOf a) 0)) e)
     ∙ ap (λ (a : Answer). firstRefusal (afterRepair (a .word))) e
 
 module _ (f : List ℕ) (j : Judged f) where
   pub judged-accepted : frameRefusal f ≡ 0
-  judged-accepted = repaired-refusal f (j .word) (j .places) (j .size) (j .filler) (j .pattern) (j .repaired) ∙ none-refusal (afterRepair (wordBytes (j .word))) (j .tests)
+  judged-accepted = repaired-refusal f (j .word) (j .places) (j .size) (j .filler) (ap isNeither (j .sync)) (j .repaired) ∙ none-refusal (afterRepair (wordBytes (j .word))) (j .tests)
 
   pub judged-places : placesIn f ≡ j .places
   unfolding placesIn
   judged-places = rw (judged-accepted, j .repaired)
 
-  pub judged-read : readOf f ≡ Accepted (recordIn (fieldAt f 0 1) (patternOf (fieldAt f 1 16)) (wordBytes (j .word))) (record { repaired = j .places })
+  pub judged-read : readOf f
+      ≡ Accepted (recordIn (fieldAt f 0 1) (j .pattern) (wordBytes (j .word))) (record { repaired = j .places; differing = j .differing })
   unfolding readOf
-  judged-read = rw (judged-accepted, judged-places, j .repaired)
+  judged-read = rw (judged-accepted, judged-places, j .repaired, j .sync)
 
   -- the word differs from the received bits in as many places, at most eight
   pub judged-dist : (j .places ≡ dist (protected f) (j .word)) × (j .places ≤ 8)

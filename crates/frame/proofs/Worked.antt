@@ -2,7 +2,7 @@
 use mathlib.Core.Path.{_≡_, refl, ap, ap₂, _∙_, subst}
 use mathlib.Core.Bool.{Bool, true, false, not, _||_}
 use mathlib.Core.Logic.{_≢_}
-use mathlib.Core.List.{List, [], _∷_, map}
+use mathlib.Core.List.{List, [], _∷_}
 use Prim.Native.Nat.{ℕ, _<_}
 use native.Mathlib.Omega.{arith}
 use lib.Dec.{eqb, ltb, T}
@@ -15,8 +15,10 @@ use Rattle.bits.specs.Refusal.{firstRefusal}
 use Rattle.bits.proofs.Computed.{below, below-at, T-not}
 use Rattle.bits.proofs.Layouts.{fitb-fit}
 use Rattle.bits.proofs.Refusal.{refusal-here, refusal-later, refusal-append-given}
+use Rattle.gf2.specs.Polynomial.{add}
 use Rattle.dsc.specs.Repair.{numberOf, repairOf}
-use Rattle.frame.specs.Pattern.{patternWord, patternOf}
+use Rattle.dsc.specs.Code.{dist}
+use Rattle.sync_pattern.specs.Pattern.{isNeither, differingFrom, syncOf}
 use Rattle.frame.specs.Identification.{classOf, isUndefined}
 use Rattle.frame.specs.Body.{row, layout}
 use Rattle.frame.specs.Fields.{fields, scatter, fieldWidths, recordBody, overLimit}
@@ -29,8 +31,8 @@ use Rattle.frame.specs.declared.Body.{Body}
 use Rattle.frame.specs.declared.Body.the-variants.{PlacePage}
 use Rattle.frame.specs.declared.Record.{Record}
 use Rattle.frame.specs.declared.Reading.the-variants.{Refused}
-use Rattle.frame.proofs.Bodies.{Chosen, place, chosen, sound-legal, heads}
-use Rattle.frame.proofs.Frames.{wordOf, length-frame, found-refusal, outside}
+use Rattle.frame.proofs.Bodies.{Chosen, place, chosen, sound-legal}
+use Rattle.frame.proofs.Frames.{wordOf, length-frame, found-refusal, own-outside}
 use Rattle.frame.proofs.Readings.{repaired-refusal}
 use Rattle.frame.proofs.Promises.{comes-back, repair-own, refused-read}
 
@@ -61,9 +63,9 @@ not-read : (r : Record) → AtLatitude 901 r → readOf (frameOf r) ≡ Refused 
 not-read r a =
     let f = frameOf r in
     let g = fit 901 r a in
-    let o = outside r g f (length-frame r) refl refl in
+    let o = own-outside r g in
     let e : frameRefusal f ≡ 9 =
-    repaired-refusal f (wordOf r) 0 (length-frame r) (o .filler) (λ z. omega (arith, o .pattern, heads (recordBody r) r g .pattern)) (repair-own r)
+    repaired-refusal f (wordOf r) 0 (length-frame r) (o .filler) (ap isNeither (o .sync)) (repair-own r)
     ∙ found-refusal r g (known 901 r a) ∙ refusal-here 9 [] (limits 901 r a) in
     refused-read f (λ z. omega arith) ∙ ap Refused e
 
@@ -72,7 +74,7 @@ unfolding atLatitude classOf row layout scatter fieldWidths freeWidths
 some n h = record { body = refl; fit = rw (lt-ltb n 1024 h); longitude = omega arith; latitude = refl }
 
 zero-bytes : readOf (replicate 26 0) ≡ Refused 3
-unfolding frameRefusal firstRefusal patternOf bits bitsOf odd value digit
+unfolding frameRefusal firstRefusal syncOf differingFrom add bits bitsOf odd value digit
 zero-bytes =
     let f : List ℕ = replicate 26 0 in
     let e : frameRefusal f ≡ 3 = refusal-append-given (beforeRepair f) ((4, not (eqb (numberOf (repairOf f)) 0)) ∷ afterRepair (repairOf f .word)) 3 (omega arith) refl in
@@ -100,14 +102,9 @@ tokyo : warnedIn (areaRecord 0xFFFEFFFFFFFFFF) 15 ≡ true
 unfolding warnedIn areaRecord odd
 tokyo = refl
 
-complement : bitsOf 16 (patternWord 1) ≡ map not (bitsOf 16 (patternWord 0))
-unfolding bitsOf odd
-complement = refl
-
 pub worked : Worked
 worked =
     record {
-      complement = complement;
       example8-written = legal;
       example8-read = λ r a. comes-back r (legal r a);
       example8-not-written = not-written;

@@ -1,4 +1,3 @@
-pub mod Pattern
 pub mod Identification
 pub mod Entry
 pub mod Body

@@ -1,4 +1,4 @@
--- Judging and reading a frame (document 01, "When the box says no"). Assumes nothing.
+-- Judging and reading a frame (document 01, "When the box says no"; document 02, e). Assumes nothing.
 use mathlib.Core.Bool.{Bool, cond, not}
 use mathlib.Core.List.{List, [], _∷_, _++_}
 use Prim.Native.Nat.{ℕ}
@@ -11,13 +11,15 @@ use Rattle.bits.specs.Segment.{unpackSegments, fixedBitsHold}
 use Rattle.bits.specs.Refusal.{firstRefusal}
 use Rattle.crc.specs.Crc.{crc10Of}
 use Rattle.dsc.specs.Repair.{protected, numberOf, placesOf, repairOf}
-use Rattle.frame.specs.Pattern.{patternWord, patternOf}
+use Rattle.sync_pattern.specs.Pattern.{patternBits, syncOf, isNeither, fittingPattern, fittingDiffering}
+use Rattle.sync_pattern.specs.declared.Sync.{Sync}
 use Rattle.frame.specs.Identification.{classOf, flagsWrong, isUndefined}
 use Rattle.frame.specs.Body.{bodyOf, layout}
 use Rattle.frame.specs.Fields.{fields, overLimit, recordOf}
 use Rattle.frame.specs.declared.Class.{Class}
 use Rattle.frame.specs.declared.Body.{Body}
 use Rattle.frame.specs.declared.Record.{Record}
+use Rattle.frame.specs.declared.Damage.{Damage}
 use Rattle.frame.specs.declared.Verdict.{Verdict}
 use Rattle.frame.specs.declared.Cleaned.{Cleaned}
 use Rattle.frame.specs.declared.Reading.{Reading}
@@ -46,6 +48,16 @@ valuesIn c = unpackSegments (layout (bodyIn c)) (detailsIn c)
 abbrev pub recordIn : (reference pattern : ℕ) → List ℕ → Record
 recordIn b p c = recordOf (bodyIn c) b p (identificationIn c) (fieldAt c 19 2) (valuesIn c)
 
+-- ---- the synchronising bits
+
+-- B1 to B16
+abbrev pub syncBits : List ℕ → List Bool
+syncBits f = take 16 (drop 1 (bits f))
+
+-- the pattern that they fit, and in how many of them they differ from it, or neither
+abbrev pub syncIn : List ℕ → Sync
+syncIn f = syncOf (syncBits f)
+
 -- ---- the tests, in order
 
 -- before the repair
@@ -53,7 +65,7 @@ abbrev pub beforeRepair : List ℕ → List (ℕ × Bool)
 beforeRepair f =
     (1, not (eqb (length f) 26))
     ∷ (2, not (eqb (fieldAt f 204 4) 0))
-    ∷ (3, eqb (patternOf (fieldAt f 1 16)) 2)
+    ∷ (3, isNeither (syncIn f))
     ∷ []
 
 -- after it: the CRC, the identification, start/end and update, the bits fixed at 1, the house limits
@@ -77,6 +89,14 @@ frameRefusal f = firstRefusal (frameTests f)
 unfoldable pub placesIn : List ℕ → ℕ
 placesIn f = cond (eqb (frameRefusal f) 0) (placesOf (repairOf f)) 0
 
+-- nothing repaired, and no bit that differed
+abbrev pub noDamage : Damage
+noDamage = record { repaired = 0; differing = 0 }
+
+-- what was damaged in an accepted frame: the repaired places, and beside them the bits that differed from the pattern
+abbrev pub damageIn : List ℕ → Damage
+damageIn f = record { repaired = placesIn f; differing = fittingDiffering (syncIn f) }
+
 -- what `judge` answers
 unfoldable pub judgeOf : List ℕ → Verdict
 judgeOf f = record { number = frameRefusal f; repaired = placesIn f }
@@ -85,10 +105,10 @@ judgeOf f = record { number = frameRefusal f; repaired = placesIn f }
 unfoldable pub readOf : List ℕ → Reading
 readOf f =
     cond (eqb (frameRefusal f) 0)
-    (Accepted (recordIn (fieldAt f 0 1) (patternOf (fieldAt f 1 16)) (repairOf f .word)) (record { repaired = placesIn f }))
+    (Accepted (recordIn (fieldAt f 0 1) (fittingPattern (syncIn f)) (repairOf f .word)) (damageIn f))
     (Refused (frameRefusal f))
 
--- document 01's number and values of a reading: 0 with the repaired places and the record, or the refusal's number and nothing else
+-- document 01's number and values of a reading: 0 with the repaired places, the differing bits and the record, or the refusal's number and nothing else
 abbrev pub readingNumber : Reading → ℕ
 readingNumber (Accepted r d) = 0
 readingNumber (Refused n) = n
@@ -97,16 +117,20 @@ abbrev pub readingPlaces : Reading → ℕ
 readingPlaces (Accepted r d) = d .repaired
 readingPlaces (Refused n) = 0
 
+abbrev pub readingDiffering : Reading → ℕ
+readingDiffering (Accepted r d) = d .differing
+readingDiffering (Refused n) = 0
+
 abbrev pub readingFields : Reading → List ℕ
 readingFields (Accepted r d) = fields r
 readingFields (Refused n) = []
 
--- ---- the frame with its damage repaired: its reference, its pattern's bits, the repaired word, the filler
+-- ---- the frame with its damage repaired: its reference, the pattern's own bits, the repaired word, the filler
 
 unfoldable pub cleanOf : List ℕ → List ℕ
 cleanOf f =
     bytes 26
-    (bitsOf 1 (fieldAt f 0 1) ++ (bitsOf 16 (patternWord (patternOf (fieldAt f 1 16))) ++ (protected (repairOf f .word) ++ zeros 4)))
+    (bitsOf 1 (fieldAt f 0 1) ++ (patternBits (fittingPattern (syncIn f)) ++ (protected (repairOf f .word) ++ zeros 4)))
 
 -- what `clean` answers: the refusal's number, and the frame with its damage repaired, or 26 zeros where it is refused
 unfoldable pub cleanedOf : List ℕ → Cleaned

@@ -11,7 +11,7 @@ use Rattle.bits.specs.Refusal.{firstRefusal}
 use Rattle.crc.specs.Crc.{crc10}
 use Rattle.gf2.specs.Polynomial.{zeros}
 use Rattle.dsc.specs.Code.{parityOf}
-use Rattle.frame.specs.Pattern.{patternWord}
+use Rattle.sync_pattern.specs.Pattern.{patternBits}
 use Rattle.frame.specs.Identification.{classOf, startEndOf, updateOf, isUndefined}
 use Rattle.frame.specs.Body.{layout}
 use Rattle.frame.specs.Fields.{bodyValues, recordBody, tooWide, overLimit}
@@ -48,7 +48,7 @@ messageBits r =
 unfoldable pub frameOf : Record → List ℕ
 frameOf r =
     bytes 26
-    (bitsOf 1 (r .reference) ++ (bitsOf 16 (patternWord (r .pattern)) ++ (messageBits r ++ (parityOf (messageBits r) ++ zeros 4))))
+    (bitsOf 1 (r .reference) ++ (patternBits (r .pattern) ++ (messageBits r ++ (parityOf (messageBits r) ++ zeros 4))))
 
 -- what `write` answers for a buffer of n bytes
 unfoldable pub writeNumber : Record → ℕ → ℕ

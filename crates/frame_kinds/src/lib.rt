@@ -1,6 +1,5 @@
 // What an identification announces, which body the details have, and which areas a record warns.
 ghost use mathlib.Core.Path.{_≡_};
-ghost use Rattle.frame.specs.Pattern.{patternWord, patternOf};
 ghost use Rattle.frame.specs.Identification.{classOf, flagsWrong, isUndefined};
 ghost use Rattle.frame.specs.Body.{bodyOf};
 ghost use Rattle.frame.specs.Fields.{overLimit};
@@ -8,29 +7,6 @@ ghost use Rattle.frame.specs.Area.{warnedIn};
 use frame::Body;
 use frame::Class;
 use frame::Record;
-
-// The bits B1 to B16 of a pattern.
-pub fn pattern_word(pattern: u64) -> u64
-    ensures { λ r. ⌜ r ≡ patternWord pattern ⌝ }
-{
-    if pattern == 0 {
-        return 0x35EE;
-    }
-    0xCA11
-}
-
-// The pattern that B1 to B16 are, and 2 where they are neither.
-pub fn pattern_of(sync: u64) -> u64
-    ensures { λ r. ⌜ r ≡ patternOf sync ⌝ }
-{
-    if sync == pattern_word(0) {
-        return 0;
-    }
-    if sync == pattern_word(1) {
-        return 1;
-    }
-    2
-}
 
 pub fn class_of(identification: u64) -> Class
     ensures { λ r. ⌜ r ≡ classOf identification ⌝ }

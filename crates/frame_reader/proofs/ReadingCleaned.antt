@@ -16,8 +16,8 @@ use Rattle.dsc.specs.Repair.{protected, numberOf, repairOf}
 use Rattle.dsc.proofs.Answers.{length-protected, length-wordBytes, bits-wordBytes, protected-wordBytes, answered, repair-found, repair-none}
 use Rattle.dsc.proofs.Decoding.{Nearest, one, none, nearest}
 use Rattle.dsc.proofs.Word.{length-word}
-use Rattle.frame.specs.Pattern.{patternWord, patternOf}
-use Rattle.frame.specs.Read.{recordIn, frameRefusal, readOf, cleanOf}
+use Rattle.sync_pattern.specs.Pattern.{patternWord, fittingPattern}
+use Rattle.frame.specs.Read.{syncIn, frameRefusal, readOf, cleanOf}
 use Rattle.frame_reader.specs.Examined.{examinedOf}
 use Rattle.frame.specs.Read.{cleanedOf}
 use Rattle.frame.specs.declared.Record.{Record}
@@ -26,7 +26,7 @@ use Rattle.frame_reader.specs.declared.Examined.{Examined}
 use Rattle.frame.specs.declared.Cleaned.{Cleaned}
 use Rattle.frame.specs.declared.Reading.the-variants.{Accepted, Refused}
 use Rattle.frame.proofs.Bodies.{taken}
-use Rattle.frame_reader.proofs.ReadingExamined.{read-accepted, read-refused}
+use Rattle.frame_reader.proofs.ReadingExamined.{contentsIn, read-accepted, read-refused}
 
 -- ---- 17 bits put in front
 
@@ -64,12 +64,12 @@ module _ (f : List ℕ) (e : frameRefusal f ≡ 0) where
           rw (repair-found f (untouched .0) c k d, bits-wordBytes c l, protected-wordBytes c l)
       go (none n) = let z : _≡_ {A = ℕ} 4 0 = sym (ap numberOf (repair-none f (untouched .0) n)) ∙ untouched .1 in absurd (omega arith)
 
-  cleaned-bytes : (r : Record) → r ≡ recordIn (fieldAt f 0 1) (patternOf (fieldAt f 1 16)) (repairOf f .word)
+  cleaned-bytes : (r : Record) → r ≡ contentsIn f
       → putOf (putOf (repairOf f .word) 0 1 (r .reference)) 1 16 (patternWord (r .pattern)) ≡ cleanOf f
   unfolding cleanOf
   cleaned-bytes r er =
       let a : r .reference ≡ fieldAt f 0 1 = ap (λ (k : Record). k .reference) er ∙ taken _ _ _ _ _ _ .reference in
-      let b : r .pattern ≡ patternOf (fieldAt f 1 16) = ap (λ (k : Record). k .pattern) er ∙ taken _ _ _ _ _ _ .pattern in
+      let b : r .pattern ≡ fittingPattern (syncIn f) = ap (λ (k : Record). k .pattern) er ∙ taken _ _ _ _ _ _ .pattern in
       put-front (repairOf f .word) (r .reference) (patternWord (r .pattern)) word-length
       ∙ rw (a, b, after-front)
 

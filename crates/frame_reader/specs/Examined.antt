@@ -9,19 +9,20 @@ use Rattle.dsc.specs.Repair.{repairOf}
 use Rattle.frame.specs.Read.{recordIn, afterRepair, frameRefusal, readOf}
 use Rattle.frame_reader.specs.declared.Examined.{Examined}
 use Rattle.frame.specs.declared.Record.{Record}
+use Rattle.frame.specs.declared.Damage.{Damage}
 use Rattle.frame.specs.declared.Reading.the-variants.{Accepted, Refused}
 
 -- a refusal: its number, and no word
 abbrev pub examinedRefused : ℕ → Examined
 examinedRefused n = record { reading = Refused n; word = replicate 26 0 }
 
--- accepted: the record, the number of repaired places, the repaired frame
-abbrev pub examinedAccepted : Record → ℕ → List ℕ → Examined
-examinedAccepted r n c = record { reading = Accepted r (record { repaired = n }); word = c }
+-- accepted: the record, what was damaged, the repaired frame
+abbrev pub examinedAccepted : Record → Damage → List ℕ → Examined
+examinedAccepted r d c = record { reading = Accepted r d; word = c }
 
--- the repaired frame c examined, when n places of it were repaired
-unfoldable pub wordExamined : (reference pattern n : ℕ) → List ℕ → Examined
-wordExamined x p n c = cond (eqb (firstRefusal (afterRepair c)) 0) (examinedAccepted (recordIn x p c) n c) (examinedRefused (firstRefusal (afterRepair c)))
+-- the repaired frame c examined, when d was damaged in it
+unfoldable pub wordExamined : (reference pattern : ℕ) → Damage → List ℕ → Examined
+wordExamined x p d c = cond (eqb (firstRefusal (afterRepair c)) 0) (examinedAccepted (recordIn x p c) d c) (examinedRefused (firstRefusal (afterRepair c)))
 
 -- any bytes examined: what is read, with the repaired frame beside it
 unfoldable pub examinedOf : List ℕ → Examined

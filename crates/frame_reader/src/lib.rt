@@ -7,6 +7,7 @@ use frame::Cleaned;
 use frame::Damage;
 use frame::Reading;
 use frame::Verdict;
+use frame_refusals::Front;
 
 // A frame examined: what is read, with the repaired word beside it, which is 0 on a refusal.
 pub struct Examined {
@@ -25,8 +26,8 @@ fn refused(number: u8) -> Examined
 }
 
 // A repaired frame, tested and read.
-fn examine_word(reference: u64, pattern: u64, places: u8, word: [u8; 26]) -> Examined
-    ensures { λ r. ⌜ r ≡ wordExamined reference pattern places word ⌝ }
+fn examine_word(reference: u64, pattern: u64, damage: Damage, word: [u8; 26]) -> Examined
+    ensures { λ r. ⌜ r ≡ wordExamined reference pattern damage word ⌝ }
 {
     let details = frame_refusals::word_details(reference, pattern, &word);
     let number = frame_refusals::word_refusal(&word, details);
@@ -34,7 +35,6 @@ fn examine_word(reference: u64, pattern: u64, places: u8, word: [u8; 26]) -> Exa
         return refused(number);
     }
     let contents = details.contents;
-    let damage = Damage { repaired: places };
     Examined {
         reading: Reading::Accepted(contents, damage),
         word,
@@ -45,25 +45,28 @@ fn examine_word(reference: u64, pattern: u64, places: u8, word: [u8; 26]) -> Exa
 fn examine(frame: &[u8]) -> Examined
     ensures { λ r. ⌜ r ≡ examinedOf (now (frame .entry)) ⌝ }
 {
-    let front = frame_refusals::front_refusal(frame);
-    if front != 0 {
-        return refused(front);
-    }
-    let answer = dsc_codec::repair(frame);
-    let outcome = answer.outcome;
-    match outcome {
-        Outcome::Repaired(places) => {
-            let reference = bit_fields::get(frame, 0, 1);
-            let pattern = frame_kinds::pattern_of(bit_fields::get(frame, 1, 16));
-            let word = answer.word;
-            examine_word(reference, pattern, places, word)
+    match frame_refusals::front_of(frame) {
+        Front::Passed(reference, pattern, differing) => {
+            let answer = dsc_codec::repair(frame);
+            let outcome = answer.outcome;
+            match outcome {
+                Outcome::Repaired(repaired) => {
+                    let damage = Damage {
+                        repaired,
+                        differing,
+                    };
+                    let word = answer.word;
+                    examine_word(reference, pattern, damage, word)
+                }
+                // the frame has 26 bytes, so there is no code word within eight places
+                Outcome::Refused(_) => refused(4),
+            }
         }
-        // the frame has 26 bytes, so there is no code word within eight places
-        Outcome::Refused(_) => refused(4),
+        Front::Refused(number) => refused(number),
     }
 }
 
-// The record of a frame and the number of its repaired places, or the refusal.
+// The record of a frame and what was damaged in it, or the refusal.
 pub fn read(frame: &[u8]) -> Reading
     ensures { λ r. ⌜ r ≡ readOf (now (frame .entry)) ⌝ }
 {
@@ -87,7 +90,7 @@ pub fn judge(frame: &[u8]) -> Verdict
     }
 }
 
-// The frame with its damage repaired.
+// The frame with its damage repaired, and the pattern's own bits.
 pub fn clean(frame: &[u8]) -> Cleaned
     ensures { λ r. ⌜ r ≡ cleanedOf (now (frame .entry)) ⌝ }
 {
@@ -101,7 +104,7 @@ pub fn clean(frame: &[u8]) -> Cleaned
                 &mut cleaned,
                 1,
                 16,
-                frame_kinds::pattern_word(contents.pattern),
+                sync_pattern::pattern_word(contents.pattern),
             );
             Cleaned {
                 number: 0,

@@ -2,29 +2,34 @@
 use mathlib.Core.Path.{_≡_, refl, sym, ap, ap₂, _∙_}
 use mathlib.Core.Bool.{Bool, true, false, cond, not}
 use mathlib.Core.List.{List}
-use Prim.Native.Nat.{ℕ, _-_}
+use Prim.Native.Nat.{ℕ, _-_, _<_}
 use native.Mathlib.Omega.{arith}
 use lib.Dec.{eqb}
 use lib.ListN.{length, take, drop, length-drop}
 use lib.Seq.{take-all}
-use borrow.Author.Tests.{eq-eqb, ne-eqb}
-use Rattle.bits.specs.Bits.{bits}
+use borrow.Author.Tests.{eq-eqb, ne-eqb, eqb-true, eqb-false}
+use Rattle.bits.specs.Bits.{bits, bitsOf}
 use Rattle.bits.specs.Field.{fieldAt, within, getOf}
 use Rattle.bits.specs.Segment.{fixedBitsHold}
 use Rattle.bits.specs.Refusal.{firstRefusal}
 use Rattle.bits.proofs.Bits.{bits-drop}
 use Rattle.bits.proofs.Refusal.{Tested, end, met, unmet, tested}
 use Rattle.crc.specs.Crc.{crc10Of}
-use Rattle.frame.specs.Pattern.{patternOf}
+use Rattle.sync_pattern.specs.Pattern.{syncOf, isNeither, fittingPattern, fittingDiffering}
+use Rattle.sync_pattern.specs.declared.Sync.{Sync}
+use Rattle.sync_pattern.specs.declared.Sync.the-variants.{Fits, Neither}
 use Rattle.frame.specs.Identification.{classOf, flagsWrong, isUndefined}
 use Rattle.frame.specs.Body.{bodyOf, layout}
 use Rattle.frame.specs.Fields.{overLimit}
-use Rattle.frame.specs.Read.{classIn, bodyIn, detailsIn, recordIn, beforeRepair, afterRepair}
+use Rattle.frame.specs.Read.{classIn, bodyIn, detailsIn, recordIn, syncIn, beforeRepair, afterRepair}
+use Rattle.frame_refusals.specs.Front.{frontOf}
 use Rattle.frame_refusals.specs.Word.{wordDetails, Tells}
 use Rattle.frame_details.specs.Details.{detailsOf}
 use Rattle.frame.specs.declared.Class.{Class}
 use Rattle.frame.specs.declared.Body.{Body}
 use Rattle.frame_details.specs.declared.Details.{Details}
+use Rattle.frame_refusals.specs.declared.Front.the-variants.{Passed, Refused}
+use Rattle.frame.proofs.Parts.{part-bits, frame-bits}
 use Rattle.frame.proofs.Bodies.{taken}
 
 -- a field that lies in 26 bytes
@@ -35,36 +40,75 @@ got s k w n h t e =
 -- ---- before the repair
 
 module _ (f : List ℕ) where
-  pub front-short : (length f ≡ 26 → ⊥) → 1 ≡ firstRefusal (beforeRepair f)
-  front-short n = tested (met (ap not (ne-eqb (length f) 26 n)))
+  refused-with : (n : ℕ) → 0 < n → n ≡ firstRefusal (beforeRepair f) → Refused n ≡ frontOf f
+  unfolding frontOf
+  refused-with n p e = rw (sym e, ne-eqb n 0 (λ z. omega arith))
+
+  pub front-short : (length f ≡ 26 → ⊥) → Refused 1 ≡ frontOf f
+  front-short n = refused-with 1 (omega arith) (tested (met (ap not (ne-eqb (length f) 26 n))))
 
   module _ (h : length f ≡ 26) (filler : ℕ) (ef : filler ≡ getOf f 204 4) where
     field-filler : filler ≡ fieldAt f 204 4
     field-filler = got f 204 4 filler h refl ef
 
-    pub front-filler : (filler ≡ 0 → ⊥) → 2 ≡ firstRefusal (beforeRepair f)
+    pub front-filler : (filler ≡ 0 → ⊥) → Refused 2 ≡ frontOf f
     front-filler n =
-        tested
+        refused-with 2 (omega arith)
+        (tested
         (unmet (ap not (eq-eqb (length f) 26 h))
-        (met (ap not (ne-eqb (fieldAt f 204 4) 0 (λ z. n (field-filler ∙ z))))))
+        (met (ap not (ne-eqb (fieldAt f 204 4) 0 (λ z. n (field-filler ∙ z)))))))
 
-    module _ (z : filler ≡ 0) (sync pattern : ℕ) (es : sync ≡ getOf f 1 16) (ep : pattern ≡ patternOf sync) where
-      field-pattern : pattern ≡ patternOf (fieldAt f 1 16)
-      field-pattern = ep ∙ ap patternOf (got f 1 16 sync h refl es)
+    module _ (z : filler ≡ 0) (n : ℕ) (en : n ≡ getOf f 1 16) (y : Sync) (ey : y ≡ syncOf (bitsOf 16 n)) where
+      -- B1 to B16 are the bits of the number that was read there
+      read-sync : y ≡ syncIn f
+      read-sync = ey ∙ ap syncOf (ap (bitsOf 16) (got f 1 16 n h refl en) ∙ part-bits 1 16 (bits f) (omega (arith, frame-bits f h)))
 
-      pub front-pattern : pattern ≡ 2 → 3 ≡ firstRefusal (beforeRepair f)
-      front-pattern n =
-          tested
-          (unmet (ap not (eq-eqb (length f) 26 h))
-          (unmet (ap not (eq-eqb (fieldAt f 204 4) 0 (sym field-filler ∙ z)))
-          (met (eq-eqb (patternOf (fieldAt f 1 16)) 2 (sym field-pattern ∙ n)))))
+      past-filler : {k : ℕ} → Tested (drop 2 (beforeRepair f)) k → k ≡ firstRefusal (beforeRepair f)
+      past-filler t =
+          tested (unmet (ap not (eq-eqb (length f) 26 h)) (unmet (ap not (eq-eqb (fieldAt f 204 4) 0 (sym field-filler ∙ z))) t))
 
-      pub front-none : (pattern ≡ 2 → ⊥) → 0 ≡ firstRefusal (beforeRepair f)
-      front-none n =
-          tested
-          (unmet (ap not (eq-eqb (length f) 26 h))
-          (unmet (ap not (eq-eqb (fieldAt f 204 4) 0 (sym field-filler ∙ z)))
-          (unmet (ne-eqb (patternOf (fieldAt f 1 16)) 2 (λ e. n (field-pattern ∙ e))) end)))
+      pub front-neither : y ≡ Neither → Refused 3 ≡ frontOf f
+      front-neither e = refused-with 3 (omega arith) (past-filler (met (ap isNeither (sym read-sync ∙ e))))
+
+      pub front-fits : (x p d : ℕ) → x ≡ getOf f 0 1 → y ≡ Fits p d → Passed x p d ≡ frontOf f
+      unfolding frontOf
+      front-fits x p d ex e =
+          let s : syncIn f ≡ Fits p d = sym read-sync ∙ e in
+          rw (sym (past-filler (unmet (ap isNeither s) end)), s, got f 0 1 x h refl ex)
+
+-- ---- what they said
+
+-- a number, which is not 0
+pub front-number : (f : List ℕ) (n : ℕ) → frontOf f ≡ Refused n → (n ≡ firstRefusal (beforeRepair f)) × (n ≡ 0 → ⊥)
+unfolding frontOf
+front-number f n = go (eqb (firstRefusal (beforeRepair f)) 0) refl
+  where
+    m : ℕ
+    m = firstRefusal (beforeRepair f)
+
+    go : (t : Bool) → eqb m 0 ≡ t → cond t (Passed (fieldAt f 0 1) (fittingPattern (syncIn f)) (fittingDiffering (syncIn f))) (Refused m) ≡ Refused n
+        → (n ≡ m) × (n ≡ 0 → ⊥)
+    go true q e = let z : _≡_ {A = ℕ} 0 1 = cc in absurd (omega arith)
+    go false q e = let k : m ≡ n = cc in (sym k, λ z. eqb-false m 0 q (k ∙ z))
+
+-- or nothing is refused, and these stand before the word
+pub record PassedIn (f : List ℕ) (x p d : ℕ) : Type 0 where
+  pub none : firstRefusal (beforeRepair f) ≡ 0
+  pub reference : x ≡ fieldAt f 0 1
+  pub pattern : p ≡ fittingPattern (syncIn f)
+  pub differing : d ≡ fittingDiffering (syncIn f)
+
+pub front-passed : (f : List ℕ) (x p d : ℕ) → frontOf f ≡ Passed x p d → PassedIn f x p d
+unfolding frontOf
+front-passed f x p d = go (eqb (firstRefusal (beforeRepair f)) 0) refl
+  where
+    m : ℕ
+    m = firstRefusal (beforeRepair f)
+
+    go : (t : Bool) → eqb m 0 ≡ t → cond t (Passed (fieldAt f 0 1) (fittingPattern (syncIn f)) (fittingDiffering (syncIn f))) (Refused m) ≡ Passed x p d
+        → PassedIn f x p d
+    go true q e = record { none = eqb-true m 0 q; reference = cc; pattern = cc; differing = cc }
+    go false q e = let z : _≡_ {A = ℕ} 0 1 = cc in absurd (omega arith)
 
 -- ---- the repaired frame
 

@@ -7,27 +7,37 @@ ghost use Rattle.bits.specs.Bits.{bits};
 ghost use Rattle.bits.specs.Field.{fieldAt};
 ghost use Rattle.bits.specs.Refusal.{firstRefusal};
 ghost use Rattle.crc.specs.Crc.{crc10Of};
-ghost use Rattle.frame.specs.Read.{bodyIn, beforeRepair, afterRepair};
+ghost use Rattle.frame.specs.Read.{bodyIn, afterRepair};
+ghost use Rattle.frame_refusals.specs.Front.{frontOf};
 ghost use Rattle.frame_refusals.specs.Word.{wordDetails, Tells};
 use frame::Body;
 use frame_details::Details;
+use sync_pattern::Sync;
 
-// The tests before the repair: 1, 2, 3, or 0.
-pub fn front_refusal(frame: &[u8]) -> u8
-    ensures { λ r. ⌜ r ≡ firstRefusal (beforeRepair (now (frame .entry))) ⌝ }
+// What the tests before the repair say, and what they find before the word.
+pub enum Front {
+    // the reference, the pattern, and how many bits of B1 to B16 differ from it
+    Passed(u64, u64, u8),
+    // 1, 2 or 3
+    Refused(u8),
+}
+
+// The tests before the repair.
+pub fn front_of(frame: &[u8]) -> Front
+    ensures { λ r. ⌜ r ≡ frontOf (now (frame .entry)) ⌝ }
 {
     if frame.len() != 26 {
-        return 1;
+        return Front::Refused(1);
     }
     let filler = bit_fields::get(frame, 204, 4);
     if filler != 0 {
-        return 2;
+        return Front::Refused(2);
     }
-    let pattern = frame_kinds::pattern_of(bit_fields::get(frame, 1, 16));
-    if pattern == 2 {
-        return 3;
+    let reference = bit_fields::get(frame, 0, 1);
+    match sync_pattern::sync_of(bit_fields::get(frame, 1, 16)) {
+        Sync::Fits(pattern, differing) => Front::Passed(reference, pattern, differing),
+        Sync::Neither => Front::Refused(3),
     }
-    0
 }
 
 // The body of a repaired frame.

@@ -4,7 +4,7 @@ use mathlib.Core.List.{List, [], _∷_}
 use Prim.Native.Nat.{ℕ}
 use Rattle.bits.specs.Layout.{pack}
 use Rattle.bits.specs.Segment.{packSegments}
-use Rattle.frame.specs.Pattern.{patternWord}
+use Rattle.sync_pattern.specs.Pattern.{patternWord}
 use Rattle.frame.specs.Identification.{classOf, startEndOf, updateOf}
 use Rattle.frame.specs.Body.{layout}
 use Rattle.frame.specs.Fields.{bodyValues, recordBody}

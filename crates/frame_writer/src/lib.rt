@@ -37,7 +37,7 @@ fn front_values(contents: Record) -> [u64; 5]
     let class = frame_kinds::class_of(contents.identification);
     [
         contents.reference,
-        frame_kinds::pattern_word(contents.pattern),
+        sync_pattern::pattern_word(contents.pattern),
         start_end(class),
         update_of(class, contents.update),
         contents.identification,

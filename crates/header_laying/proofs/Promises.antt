@@ -12,14 +12,15 @@ use borrow.Author.Tests.{eq-eqb, ne-eqb, eqb-true, eqb-false}
 use Rattle.bits.specs.Bits.{digit, odd, value, bitsOf, bits, bytes, Bytes}
 use Rattle.bits.specs.Refusal.{firstRefusal, orElse}
 use Rattle.bits.proofs.Bits.{length-bits, length-bytes, bytes-bits, bytes-Bytes}
-use Rattle.gf2.specs.Polynomial.{zeros}
-use Rattle.frame.specs.Pattern.{patternOf}
-use Rattle.frame.specs.Read.{frameRefusal, judgeOf, readOf, cleanOf}
+use Rattle.gf2.specs.Polynomial.{zeros, add}
+use Rattle.sync_pattern.specs.Pattern.{patternBits, differingFrom, syncOf}
+use Rattle.frame.specs.Read.{noDamage, frameRefusal, judgeOf, readOf, cleanOf}
 use Rattle.frame.specs.Write.{frameOf, Legal}
 use Rattle.frame.specs.declared.Record.{Record}
 use Rattle.frame.specs.declared.Damage.{Damage}
 use Rattle.frame.specs.declared.Verdict.{Verdict}
 use Rattle.frame.specs.declared.Reading.the-variants.{Accepted}
+use Rattle.frame.proofs.Parts.{take-drop-take}
 use Rattle.frame.proofs.Frames.{parts-frame}
 use Rattle.frame.proofs.Promises as frame
 use Rattle.header.specs.Header.{frontIn, headerRefusal}
@@ -30,7 +31,7 @@ use Rattle.header_laying.proofs.Laying.{withAc-bits, withAc-frontIn, wi
 
 -- an empty header is refused with 1 and 26 zero bytes with 3: the answer is the header's number
 both-refused : layInNumber [] (replicate 26 0) ≡ 1
-unfolding layInNumber headerRefusal frameRefusal firstRefusal patternOf bits bitsOf odd value digit
+unfolding layInNumber headerRefusal frameRefusal firstRefusal syncOf differingFrom add bits bitsOf odd value digit
 both-refused = refl
 
 -- a header that is changed only where nothing is refused
@@ -170,19 +171,27 @@ unfolding judgeOf
 frame-accepted f r d e = ap (λ (v : Verdict). v .number) (frame.demand2 .judged-accepted f r d e)
 
 laid-read : (h f : List ℕ) (r : Record) (d : Damage) → headerRefusal h ≡ 0 → readOf f ≡ Accepted r d
-    → readOf (bytes 26 (acBits (layInOf h f) ++ zeros 4)) ≡ Accepted r (record { repaired = 0 })
+    → readOf (bytes 26 (acBits (layInOf h f) ++ zeros 4)) ≡ Accepted r noDamage
 laid-read h f r d e a =
     let n : layInNumber h f ≡ 0 = then-frame h f e ∙ frame-accepted f r d a in
     ap (λ (x : List Bool). readOf (bytes 26 (x ++ zeros 4))) (laid-bits h f n)
     ∙ ap readOf (repaired-frame f r (frame.demand2 .written-again f r d a))
     ∙ frame.demand2 .mended-read f r d a
 
+laid-pattern : (h f : List ℕ) (r : Record) (d : Damage) → headerRefusal h ≡ 0 → readOf f ≡ Accepted r d
+    → take 16 (drop 1 (acBits (layInOf h f))) ≡ patternBits (r .pattern)
+laid-pattern h f r d e a =
+    let n : layInNumber h f ≡ 0 = then-frame h f e ∙ frame-accepted f r d a in
+    ap (λ (x : List Bool). take 16 (drop 1 x)) (laid-bits h f n)
+    ∙ take-drop-take 16 1 204 (bits (cleanOf f)) (omega arith)
+    ∙ frame.demand2 .mended f r d a .pattern
+
 -- an undamaged frame is laid in as it stands
 pub laid-own : (h : List ℕ) (r : Record) → headerRefusal h ≡ 0 → Legal r → layInOf h (frameOf r) ≡ withAc h (take 204 (bits (frameOf r)))
 laid-own h r e l =
     let back = frame.demand2 .comes-back r l in
-    laid-with h (frameOf r) (then-frame h (frameOf r) e ∙ frame-accepted (frameOf r) r (record { repaired = 0 }) back)
-    ∙ ap (λ (g : List ℕ). withAc h (take 204 (bits g))) (sym (frame.demand2 .written-again (frameOf r) r (record { repaired = 0 }) back))
+    laid-with h (frameOf r) (then-frame h (frameOf r) e ∙ frame-accepted (frameOf r) r noDamage back)
+    ∙ ap (λ (g : List ℕ). withAc h (take 204 (bits g))) (sym (frame.demand2 .written-again (frameOf r) r noDamage back))
 
 pub laying : Laying
 laying =
@@ -190,6 +199,7 @@ laying =
       laid-accepted = laid-accepted;
       laid-bits = laid-bits;
       laid-read = laid-read;
+      laid-pattern = laid-pattern;
       laid-outside = laid-outside;
       laid-front = laid-front;
       laid-twice = λ h f g e k. laid-twice h f e g k;

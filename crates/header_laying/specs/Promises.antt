@@ -7,7 +7,8 @@ use Prim.Native.Nat.{ℕ}
 use lib.ListN.{length, take, drop, replicate}
 use Rattle.bits.specs.Bits.{bits, bytes, Bytes}
 use Rattle.gf2.specs.Polynomial.{zeros}
-use Rattle.frame.specs.Read.{readOf, frameRefusal}
+use Rattle.frame.specs.Read.{noDamage, readOf, frameRefusal}
+use Rattle.sync_pattern.specs.Pattern.{patternBits}
 use Rattle.frame.specs.declared.Record.{Record}
 use Rattle.frame.specs.declared.Damage.{Damage}
 use Rattle.frame.specs.declared.Reading.the-variants.{Accepted}
@@ -29,7 +30,10 @@ pub record Laying : Type 0 where
   pub laid-bits : (h f : List ℕ) → layInNumber h f ≡ 0 → acBits (layInOf h f) ≡ repairedBits f
   -- so that, with the filler, they are read as the frame's record
   pub laid-read : (h f : List ℕ) (r : Record) (d : Damage) → headerRefusal h ≡ 0 → readOf f ≡ Accepted r d
-      → readOf (bytes 26 (acBits (layInOf h f) ++ zeros 4)) ≡ Accepted r (record { repaired = 0 })
+      → readOf (bytes 26 (acBits (layInOf h f) ++ zeros 4)) ≡ Accepted r noDamage
+  -- and B1 to B16 are the clean pattern, whatever bits of them differed
+  pub laid-pattern : (h f : List ℕ) (r : Record) (d : Damage) → headerRefusal h ≡ 0 → readOf f ≡ Accepted r d
+      → take 16 (drop 1 (acBits (layInOf h f))) ≡ patternBits (r .pattern)
   -- everything else stays, the change number too
   pub laid-outside : (h f : List ℕ) → SameOutsideAc (layInOf h f) h
   pub laid-front : (h f : List ℕ) → frontIn (layInOf h f) ≡ frontIn h

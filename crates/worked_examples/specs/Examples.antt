@@ -10,7 +10,7 @@ use Rattle.crc.specs.Examples.{covered}
 use Rattle.dsc.specs.Code.{CodeWord, weight}
 use Rattle.dsc.specs.Repair.{protected, wordBytes, repairedTo, refusedWith, repairOf}
 use Rattle.dsc.specs.Worked.{generatorWord, firstPlaces, SomePlaces}
-use Rattle.frame.specs.Read.{readOf}
+use Rattle.frame.specs.Read.{noDamage, readOf}
 use Rattle.frame.specs.Write.{Legal, recordRefusal, frameOf}
 use Rattle.frame.specs.Worked.{AtLatitude, atLatitude}
 use Rattle.frame.specs.declared.Record.{Record}
@@ -42,7 +42,7 @@ pub record Examples : Type 0 where
   pub example7-both : crc10 (covered (110 ∷ 111 ∷ [])) ≡ bitsOf 10 0b0001100110
   -- 8. latitude 900 accepted, 901 refused 9: by the writer, and by the reader of the frame that holds these fields; there are such records
   pub example8-written : (r : Record) → AtLatitude 900 r → Legal r
-  pub example8-read : (r : Record) → AtLatitude 900 r → readOf (frameOf r) ≡ Accepted r (record { repaired = 0 })
+  pub example8-read : (r : Record) → AtLatitude 900 r → readOf (frameOf r) ≡ Accepted r noDamage
   pub example8-not-written : (r : Record) → AtLatitude 901 r → recordRefusal r ≡ 9
   pub example8-not-read : (r : Record) → AtLatitude 901 r → readOf (frameOf r) ≡ Refused 9
   pub example8-some : (n : ℕ) → n < 1024 → AtLatitude n (atLatitude n)

@@ -1,10 +1,10 @@
--- `frame_kinds::pattern_word` meets its contract. Assumes nothing.
+-- `sync_pattern::pattern_word` meets its contract. Assumes nothing.
 use mathlib.Core.Path.{_≡_}
 use Prim.Native.Nat.{ℕ}
 use borrow.Author.Tests.{eq-eqb, ne-eqb}
-use Rattle.frame.specs.Pattern.{patternWord}
-use Rattle.frame_kinds.proofs.pattern_word.Statement.{statement}
-use Rattle.frame_kinds.proofs.pattern_word.Tie as tie
+use Rattle.sync_pattern.specs.Pattern.{patternWord}
+use Rattle.sync_pattern.proofs.pattern_word.Statement.{statement}
+use Rattle.sync_pattern.proofs.pattern_word.Tie as tie
 
 zeroth : (p : ℕ) → p ≡ 0 → patternWord 0 ≡ patternWord p
 zeroth p e = rw (eq-eqb p 0 e)
