@@ -26,8 +26,9 @@ int main(void)
         printf("refused %u\n", (unsigned)GVZ_REFUSAL(status));
         return 1;
     }
-    printf("identification %u, update %u, %u places repaired\n", (unsigned)record[GVZ_RECORD_IDENTIFICATION],
-        (unsigned)record[GVZ_RECORD_UPDATE], (unsigned)GVZ_REPAIRED(status));
+    printf("identification %u, update %u, %u places repaired, %u synchronising bits differed\n",
+        (unsigned)record[GVZ_RECORD_IDENTIFICATION], (unsigned)record[GVZ_RECORD_UPDATE], (unsigned)GVZ_REPAIRED(status),
+        (unsigned)GVZ_SYNC_BITS(status));
     status = gvz_report(record, GVZ_FRAME_VALUES, place, GVZ_PLACE_VALUES);
     if (GVZ_REFUSAL(status) != GVZ_REFUSAL_NONE) {
         printf("refused %u\n", (unsigned)GVZ_REFUSAL(status));

@@ -5,10 +5,11 @@
 #include <stdio.h>
 #include <string.h>
 
-/* Frames as they stand on the air: document 01's example 11, with one hit, with the generator's nine places; a place, a cancellation, no
- * information; and one refusal each. */
+/* Frames as they stand on the air: document 01's example 11, with one hit, with B1 to B3 damaged and eight hits, with the generator's nine
+ * places; a place, a cancellation, no information; and one refusal each. */
 static const char ALL_AREAS[] = "1af7000000000000000000000000000000000000000000000000";
 static const char ONE_HIT[] = "1af7000000000000000000000000000000000000000000000010";
+static const char THREE_SYNC_BITS[] = "6af7000000000000000000000000004308c01100000000000000";
 static const char NINE_HITS[] = "1af7000000000000000000000000004308c01110000000000000";
 static const char PLACE[] = "9af70a0000000ba58ac9aea147094cf61e307cb8e3e2d6661040";
 static const char CANCELLATION[] = "1af70000000001001fffffffffffe43d0ff2f235a3cbf9db1c70";
@@ -101,7 +102,9 @@ static void test_repair(void)
             expect_repair("a word of another length is refused", generator, 26, n, GVZ_REFUSAL_WRONG_LENGTH, NULL);
         }
     }
-    expect("the parts of a status", GVZ_REFUSAL((3u << 8) + 4) == 4 && GVZ_REPAIRED((3u << 8) + 4) == 3);
+    expect("the parts of a status",
+        GVZ_REFUSAL((2u << 16) + (3u << 8) + 4) == 4 && GVZ_REPAIRED((2u << 16) + (3u << 8) + 4) == 3
+            && GVZ_SYNC_BITS((2u << 16) + (3u << 8) + 4) == 2);
 }
 
 /* The record of PLACE, a test: 35.6 south, 139.7 west, 40 km. */
@@ -122,14 +125,19 @@ static void expect_frame_read(const char *what, const char *digits, size_t frame
 static void test_frame_read(void)
 {
     const uint64_t zeros[GVZ_FRAME_VALUES] = {0};
-    uint64_t cancellation[GVZ_FRAME_VALUES] = {0}, nothing[GVZ_FRAME_VALUES] = {0};
+    uint64_t cancellation[GVZ_FRAME_VALUES] = {0}, nothing[GVZ_FRAME_VALUES] = {0}, pattern_1[GVZ_FRAME_VALUES] = {0};
     cancellation[GVZ_RECORD_PAGE] = 1;
     cancellation[GVZ_RECORD_KIND] = 1;
     nothing[GVZ_RECORD_IDENTIFICATION] = 7;
     nothing[GVZ_RECORD_BROADCASTER] = 2047;
+    pattern_1[GVZ_RECORD_PATTERN] = 1;
 
     expect_frame_read("all areas", ALL_AREAS, 26, 18, 0, zeros);
     expect_frame_read("one hit", ONE_HIT, 26, 18, 1 << 8, zeros);
+    expect_frame_read("three synchronising bits and eight hits", THREE_SYNC_BITS, 26, 18, (3 << 16) + (8 << 8), zeros);
+    expect_frame_read("13 bits from pattern 0", "650b000000000000000000000000000000000000000000000000", 26, 18, 3 << 16, pattern_1);
+    expect_frame_read("four bits from pattern 0", "62f7000000000000000000000000000000000000000000000000", 26, 18, GVZ_REFUSAL_NO_PATTERN, NULL);
+    expect_frame_read("four bits from pattern 1", "650f000000000000000000000000000000000000000000000000", 26, 18, GVZ_REFUSAL_NO_PATTERN, NULL);
     expect_frame_read("a cancellation", CANCELLATION, 26, 18, 0, cancellation);
     expect_frame_read("no information", NO_INFORMATION, 26, 18, 0, nothing);
     expect_frame_read("a place", PLACE, 26, 18, 0, place_record);
@@ -311,6 +319,7 @@ static void test_follow(void)
     /* ALL_AREAS is real with update 0, PLACE a test with update 1. */
     expect_follow("begins", GVZ_STATE_QUIET, ALL_AREAS, 26, 0, GVZ_EVENT_BEGINS, GVZ_STATE_REAL(0u));
     expect_follow("same", GVZ_STATE_REAL(0u), ONE_HIT, 26, 0, GVZ_EVENT_SAME, GVZ_STATE_REAL(0u));
+    expect_follow("same, with a damaged pattern", GVZ_STATE_REAL(0u), THREE_SYNC_BITS, 26, 0, GVZ_EVENT_SAME, GVZ_STATE_REAL(0u));
     expect_follow("changed", GVZ_STATE_REAL(3u), CANCELLATION, 26, 0, GVZ_EVENT_CHANGED, GVZ_STATE_REAL(0u));
     expect_follow("skipped", GVZ_STATE_TEST(2u), PLACE, 26, 0, GVZ_EVENT_SKIPPED, GVZ_STATE_TEST(1u));
     expect_follow("of the other kind", GVZ_STATE_REAL(1u), PLACE, 26, 0, GVZ_EVENT_BEGINS, GVZ_STATE_TEST(1u));
@@ -485,6 +494,7 @@ static void test_laying(void)
 
     expect_lay_in("all areas", empty, 188, ALL_AREAS, 26, 0, laid);
     expect_lay_in("one hit is repaired", empty, 188, ONE_HIT, 26, 0, laid);
+    expect_lay_in("the pattern is laid in clean", empty, 188, THREE_SYNC_BITS, 26, 0, laid);
     expect_lay_in("laid in twice", laid, 188, ALL_AREAS, 26, 0, laid);
     expect_lay_in("nine hits", empty, 188, NINE_HITS, 26, GVZ_REFUSAL_BEYOND_REPAIR, empty);
     expect_lay_in("a frame of 25", empty, 188, ALL_AREAS, 25, GVZ_REFUSAL_WRONG_LENGTH, empty);

@@ -26,9 +26,9 @@ extern "C" {
 #endif
 
 #define GVZ_VERSION_MAJOR 0
-#define GVZ_VERSION_MINOR 2
-#define GVZ_VERSION_PATCH 1
-#define GVZ_VERSION "0.2.1"
+#define GVZ_VERSION_MINOR 3
+#define GVZ_VERSION_PATCH 0
+#define GVZ_VERSION "0.3.0"
 
 /* ---- Refusals */
 
@@ -40,7 +40,7 @@ enum gvz_refusal {
     GVZ_REFUSAL_WRONG_LENGTH = 1,
     /* a filler bit is 1 */
     GVZ_REFUSAL_FILLER_SET = 2,
-    /* B1 to B16 are neither pattern */
+    /* four bits or more of B1 to B16 differ from both patterns */
     GVZ_REFUSAL_NO_PATTERN = 3,
     /* no code word lies within eight places */
     GVZ_REFUSAL_BEYOND_REPAIR = 4,
@@ -81,7 +81,11 @@ enum gvz_refusal {
 #define GVZ_AREAS 56
 
 /* The repaired places, 0 to 8, of a status of gvz_repair, gvz_repair_register and gvz_frame_read. */
-#define GVZ_REPAIRED(status) ((status) >> 8)
+#define GVZ_REPAIRED(status) ((status) >> 8 & 255u)
+
+/* How many bits of B1 to B16 differed from the pattern, 0 to 3, of a status of gvz_frame_read; they are not among the
+ * repaired places. */
+#define GVZ_SYNC_BITS(status) ((status) >> 16)
 
 /* Whether the area is warned, 1 or 0, of a status of gvz_warned whose GVZ_REFUSAL is 0. At a refusal it is 0 too, which
  * says nothing of the area. */
@@ -101,7 +105,8 @@ enum gvz_identification {
 enum gvz_record_index {
     /* 1 bit: B0, the differential reference, carried as it stands */
     GVZ_RECORD_REFERENCE = 0,
-    /* 1 bit: 0 for the pattern 0011010111101110 in B1 to B16, 1 for its complement */
+    /* 1 bit: 0 for the pattern 0011010111101110 in B1 to B16, 1 for its complement; received bits may differ from it in
+     * up to three places, written ones are its own */
     GVZ_RECORD_PATTERN = 1,
     /* 3 bits: an enum gvz_identification */
     GVZ_RECORD_IDENTIFICATION = 2,
@@ -150,7 +155,8 @@ uint32_t gvz_repair(const uint8_t *frame, size_t frame_len, uint8_t *word, size_
 /* Returns the same by a second engine, which divides by a shift register bit by bit: slow, for comparison. */
 uint32_t gvz_repair_register(const uint8_t *frame, size_t frame_len, uint8_t *word, size_t word_len);
 
-/* Reads a frame into a record of GVZ_FRAME_VALUES. Returns a status: refuses 1 to 9; tells the repaired places. */
+/* Reads a frame into a record of GVZ_FRAME_VALUES. Returns a status: refuses 1 to 9; tells the repaired places and the
+ * bits of B1 to B16 that differed, which the record does not hold: written again, the frame has the clean pattern. */
 uint32_t gvz_frame_read(const uint8_t *frame, size_t frame_len, uint64_t *record, size_t record_len);
 
 /* Writes a record of GVZ_FRAME_VALUES into a frame of GVZ_FRAME_BYTES. Returns a status: refuses 1, then 6, 10, 9;
@@ -241,7 +247,7 @@ enum gvz_tuner {
 
 /* Which capture frame n, counted from 0, is taken from: main if it is accepted there, otherwise spare if it is
  * accepted there. Returns an enum gvz_tuner and no status. The frame's bytes are the 26 from byte 26 n on of that
- * capture, as received. Captures have any length, and a frame number past a capture is not accepted there. */
+ * capture, as received, damage included. Captures have any length, and a frame number past a capture is not accepted there. */
 uint32_t gvz_capture_source(const uint8_t *main_capture, size_t main_len, const uint8_t *spare_capture, size_t spare_len,
     uint64_t n);
 
@@ -287,7 +293,7 @@ uint32_t gvz_header_read(const uint8_t *header, size_t header_len, uint64_t *rec
  * 15; tells nothing. */
 uint32_t gvz_header_write(const uint64_t *record, size_t record_len, uint8_t *header, size_t header_len);
 
-/* Lays a frame, repaired, into a header, in place. Returns a status: refuses the header as gvz_header_read does, then
+/* Lays a frame, repaired and with the clean pattern, into a header, in place. Returns a status: refuses the header as gvz_header_read does, then
  * the frame as gvz_frame_read does; tells nothing. */
 uint32_t gvz_lay_in(uint8_t *header, size_t header_len, const uint8_t *frame, size_t frame_len);
 

@@ -4,6 +4,7 @@ use mathlib.Core.Bool.{Bool}
 use mathlib.Core.Logic.{_≢_}
 use mathlib.Core.List.{List}
 use Prim.Native.Nat.{ℕ}
+use native.Mathlib.Nat.{add-zero}
 use lib.ListN.{length}
 use borrow.Author.Tests.{eq-eqb, ne-eqb}
 use Rattle.bits.specs.Bits.{digit}
@@ -15,7 +16,7 @@ use Rattle.frame.specs.declared.Record.{Record}
 use Rattle.frame.specs.declared.Damage.{Damage}
 use Rattle.frame.specs.declared.Reading.the-variants.{Accepted, Refused}
 use Rattle.abi.specs.Status.{statusOf}
-use Rattle.abi_frame.specs.Frame.{frameReadStatus, frameReadRecord, warnedStatus}
+use Rattle.abi_frame.specs.Frame.{readingStatus, damageStatus, frameReadStatus, frameReadRecord, warnedStatus}
 
 -- ---- reading: the status n and the buffer t
 
@@ -24,14 +25,14 @@ module _ (f s : List ℕ) {n : ℕ} {t : List ℕ} where
   unfolding frameReadStatus frameReadRecord
   read-wrong h e p = let z = ne-eqb (length s) fieldCount h in (rw z e, rw z p)
 
-  pub read-accepted : {r : Record} {d : Damage} → length s ≡ fieldCount → readOf f ≡ Accepted r d → n ≡ statusOf 0 (d .repaired) → t ≡ fields r
+  pub read-accepted : {r : Record} {d : Damage} → length s ≡ fieldCount → readOf f ≡ Accepted r d → n ≡ damageStatus d → t ≡ fields r
       → (n ≡ frameReadStatus f s) × (t ≡ frameReadRecord f s)
-  unfolding frameReadStatus frameReadRecord
+  unfolding frameReadStatus frameReadRecord readingStatus
   read-accepted l e p q = let z = eq-eqb (length s) fieldCount l in (rw (z, e) p, rw (z, e) q)
 
   pub read-refused : {m : ℕ} → length s ≡ fieldCount → readOf f ≡ Refused m → n ≡ statusOf m 0 → t ≡ s → (n ≡ frameReadStatus f s) × (t ≡ frameReadRecord f s)
-  unfolding frameReadStatus frameReadRecord
-  read-refused {m} l e p q = let z = eq-eqb (length s) fieldCount l in (rw (z, e) p, rw (z, e, ne-eqb m 0 (demand2 .judged-refused f m e .0)) q)
+  unfolding frameReadStatus frameReadRecord readingStatus
+  read-refused {m} l e p q = let z = eq-eqb (length s) fieldCount l in (rw (z, e) (p ∙ sym (add-zero (statusOf m 0))), rw (z, e, ne-eqb m 0 (demand2 .judged-refused f m e .0)) q)
 
 -- ---- an area: the status n
 

@@ -1,8 +1,16 @@
 // Frames over plain numbers and slices, as a C program can call them: a record is its fields in their order.
 ghost use mathlib.Core.Path.{_≡_};
-ghost use Rattle.abi_frame.specs.Frame.{frameReadStatus, frameReadRecord, frameWriteStatus, frameWriteBytes, warnedStatus};
+ghost use Rattle.abi_frame.specs.Frame.{damageStatus, frameReadStatus, frameReadRecord, frameWriteStatus, frameWriteBytes, warnedStatus};
+use frame::Damage;
 use frame::FIELDS;
 use frame::Reading;
+
+// The status of an accepted frame: its repaired places, and above them the bits of B1 to B16 that differed from the pattern.
+fn damage_status(damage: Damage) -> u32
+    ensures { λ r. ⌜ r ≡ damageStatus damage ⌝ }
+{
+    abi::status(0, damage.repaired) + 65536 * (damage.differing as u32)
+}
 
 // Reads a frame; the record's fields where it is accepted.
 pub fn frame_read(frame: &[u8], values: &mut [u64]) -> u32
@@ -16,7 +24,7 @@ pub fn frame_read(frame: &[u8], values: &mut [u64]) -> u32
         Reading::Accepted(message, damage) => {
             let fields = frame_fields::fields_of(message);
             abi::copy(&fields, values);
-            abi::status(0, damage.repaired)
+            damage_status(damage)
         }
         Reading::Refused(number) => abi::status(number, 0),
     }

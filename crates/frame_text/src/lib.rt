@@ -1,4 +1,5 @@
-// What the box answers to frames, as lines of text. Of a frame read: `1 accepted 0` and the record's fields, or `2 refused 4`.
+// What the box answers to frames, as lines of text. Of a frame read: `1 accepted 0 0`, its repaired places and its differing synchronising bits, and the
+// record's fields, or `2 refused 4`.
 // Of a frame repaired: `1 repaired 0` and the repaired word, or `2 refused 4`. What the lines tell of is proved in `frame_reader` and `dsc_codec`.
 use dsc::Outcome;
 use frame::FIELDS;
@@ -33,7 +34,7 @@ fn bytes(s: &[u8]) {
     }
 }
 
-// A space and a field.
+// A space and a number.
 fn field(n: u64) {
     text(b" ");
     number(n);
@@ -59,6 +60,7 @@ fn reading(frame: &[u8]) {
         Reading::Accepted(r, d) => {
             text(b" accepted ");
             number(d.repaired as u64);
+            field(d.differing as u64);
             record(r);
         }
         Reading::Refused(n) => refused(n),

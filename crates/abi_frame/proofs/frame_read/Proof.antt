@@ -26,14 +26,14 @@ slice-aggregate-copy c = search needs
 copy-requires : tie.Need-copy-requires
 copy-requires c κs = search needs
 
-status-requires-2 : tie.Need-status-requires-2
-status-requires-2 c κs = search needs
+damage-status-requires : tie.Need-damage-status-requires
+damage-status-requires c κs = search needs
 
 enum-known-number : tie.Need-enum-known-number
 enum-known-number c = search needs
 
-status-requires-3 : tie.Need-status-requires-3
-status-requires-3 c κs = search needs
+status-requires-2 : tie.Need-status-requires-2
+status-requires-2 c κs = search needs
 
 same-length : tie.Need-same-length
 same-length c = search needs
@@ -41,13 +41,13 @@ same-length c = search needs
 returns-2 : tie.Need-returns-2
 returns-2 c =
     let read = c .before .before .before .before .before .before .before .before .before .before in
-    read-accepted _ _ (read .before .if1 .left) (sym (read .read .ensures) ∙ c .before .before .before .before .before .before .before .before .message .given .1) (c .status2 .ensures)
+    read-accepted _ _ (read .before .if1 .left) (sym (read .read .ensures) ∙ c .before .before .before .before .before .before .before .before .message .given .1) (c .damage-status .ensures)
     (c .before .before .before .copy .ensures ∙ c .before .before .before .before .before .before .fields-of .ensures)
 
 returns-3 : tie.Need-returns-3
 returns-3 c =
     let read = c .before .before .before .before in
-    read-refused _ _ (read .before .if1 .left) (sym (read .read .ensures) ∙ c .before .before .number .given .1) (c .status3 .ensures) refl
+    read-refused _ _ (read .before .if1 .left) (sym (read .read .ensures) ∙ c .before .before .number .given .1) (c .status2 .ensures) refl
 
 pub frame-read-spec : {M : Type 1} → statement M
 frame-read-spec =
@@ -60,9 +60,9 @@ frame-read-spec =
     fields-of-requires
     slice-aggregate-copy
     copy-requires
-    status-requires-2
+    damage-status-requires
     enum-known-number
-    status-requires-3
+    status-requires-2
     same-length
     returns-2
     returns-3)
