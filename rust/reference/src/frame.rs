@@ -1,4 +1,4 @@
-//! The warning frame (document 01, "The frame, bit by bit" and "When the box says no").
+//! The warning frame (document 01, "The frame, bit by bit" and "When the box says no"; document 02, "Damaged synchronising bits").
 use crate::code::{encode, frame_of};
 use crate::crc::crc10;
 use crate::{bit, get, put, repair, FRAME_BYTES};
@@ -30,6 +30,18 @@ pub const BROADCASTER: usize = 17;
 
 /// "B1..B16: 0011010111101110 (pattern 0) or its complement (pattern 1)."
 const PATTERNS: [u64; 2] = [0b0011_0101_1110_1110, 0b1100_1010_0001_0001];
+
+/// "Accept up to three differing bits from a pattern".
+const MOST_DIFFERING: u8 = 3;
+
+/// What was put right in an accepted frame.
+#[derive(Clone, Copy, Debug, PartialEq, Eq)]
+pub struct Damage {
+    /// How many places of B17 to B203 were repaired.
+    pub repaired: u8,
+    /// How many bits of B1 to B16 differed from the pattern; they are not among the repaired places.
+    pub differing: u8,
+}
 
 /// The places of the record's fields; the pattern, one bit of the record, stands in 16.
 const PLACES: [RangeInclusive<usize>; 18] = [
@@ -147,45 +159,66 @@ fn repaired_refusal(frame: &[u8]) -> u8 {
     }
 }
 
-/// An accepted frame with its damage repaired, and the number of repaired places; or the refusal's number, "tested 1 to 9 in that order".
-fn accept(frame: &[u8]) -> Result<([u8; FRAME_BYTES], u8), u8> {
+/// In how many bits B1 to B16 differ from a pattern.
+fn differing_bits(frame: &[u8], pattern: usize) -> u8 {
+    (get(frame, 1..=16) ^ PATTERNS[pattern]).count_ones() as u8
+}
+
+/// "The pattern test now also says how many bits differed": the pattern's number and that count. "Refusal 3 is given from four up, for both
+/// patterns." Which is tried first does not matter: "the patterns differ in all sixteen, so only one can fit".
+fn pattern_of(frame: &[u8]) -> Result<(usize, u8), u8> {
+    for pattern in [0, 1] {
+        let differing = differing_bits(frame, pattern);
+        if differing <= MOST_DIFFERING {
+            return Ok((pattern, differing));
+        }
+    }
+    Err(3)
+}
+
+/// An accepted frame with its damage put right, and that damage; or the refusal's number, "tested 1 to 9 in that order". B0 is "carried as
+/// it stands"; "An accepted frame written again has the clean pattern."
+fn accept(frame: &[u8]) -> Result<([u8; FRAME_BYTES], Damage), u8> {
     if frame.len() != FRAME_BYTES {
         return Err(1);
     }
     if get(frame, 204..=207) != 0 {
         return Err(2);
     }
-    if !PATTERNS.contains(&get(frame, 1..=16)) {
-        return Err(3);
-    }
+    let (pattern, differing) = pattern_of(frame)?;
     let repaired = repair(frame)?;
     let mut whole = repaired.word;
-    put(&mut whole, 0..=16, get(frame, 0..=16));
+    put(&mut whole, 0..=0, get(frame, 0..=0));
+    put(&mut whole, 1..=16, PATTERNS[pattern]);
+    let damage = Damage {
+        repaired: repaired.places,
+        differing,
+    };
     match repaired_refusal(&whole) {
-        0 => Ok((whole, repaired.places)),
+        0 => Ok((whole, damage)),
         number => Err(number),
     }
 }
 
-/// The number of repaired places, or the refusal's number.
+/// The number of repaired places, or the refusal's number: "the repaired places, the listing's layout and demand 3 do not change".
 pub fn judge(frame: &[u8]) -> Result<u8, u8> {
-    accept(frame).map(|(_, places)| places)
+    accept(frame).map(|(_, damage)| damage.repaired)
 }
 
-/// The frame with its damage repaired, or the refusal's number.
+/// The frame with its damage put right, the pattern's included, or the refusal's number.
 pub fn clean(frame: &[u8]) -> Result<[u8; FRAME_BYTES], u8> {
     accept(frame).map(|(whole, _)| whole)
 }
 
-/// The record and the number of repaired places, or the refusal's number.
-pub fn read(frame: &[u8]) -> Result<(Record, u8), u8> {
-    let (whole, places) = accept(frame)?;
+/// The record and the damage, or the refusal's number: "the frame reader passes that on beside the record".
+pub fn read(frame: &[u8]) -> Result<(Record, Damage), u8> {
+    let (whole, damage) = accept(frame)?;
     let mut record = [0; 18];
     for field in body_of(&whole).free() {
         record[field] = get(&whole, PLACES[field].clone());
     }
     record[PATTERN] = u64::from(record[PATTERN] == PATTERNS[1]);
-    Ok((record, places))
+    Ok((record, damage))
 }
 
 /// "The frame writer tests its buffer (1), then the identification (6), then 10, then 9": the last three, which do not look at a buffer.

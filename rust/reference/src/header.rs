@@ -152,7 +152,7 @@ fn seal(header: &mut [u8]) {
 }
 
 /// "Laying in writes the repaired 204 bits into the part that starts at byte 99, then the CRC in bytes 184 to 187"; it "tests the header
-/// fully, then the frame".
+/// fully, then the frame". The pattern laid in is the clean one (document 02, e): "Demand 2's repaired frame and laying in include this".
 pub fn lay_in(header: &mut [u8], frame: &[u8]) -> u8 {
     let number = refusal(header);
     if number != 0 {

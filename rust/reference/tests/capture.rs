@@ -1,6 +1,6 @@
 //! Two captures: which frame is taken, from where, and both numbers.
 mod common;
-use common::{frame, written, ALL_AREAS};
+use common::{flipped, frame, written, ALL_AREAS};
 use reference::capture::{frame_at, numbers};
 use reference::flip_bit;
 
@@ -26,6 +26,21 @@ fn the_frames_own_bytes() {
     let taken = frame_at(&main, &spare, 0);
     assert_eq!(taken.as_ptr_range(), spare.as_ptr_range());
     assert_eq!(numbers(&main, &spare, 0), (4, 0));
+}
+
+/// Document 02, e): a frame with three differing bits of B1 to B16 is accepted, and its bytes are those of the capture, not the clean ones.
+#[test]
+fn a_damaged_pattern() {
+    let three = flipped(frame(ALL_AREAS), &[2, 3, 16]);
+    let four = flipped(frame(ALL_AREAS), &[2, 3, 4, 16]);
+    let taken = frame_at(&three, &good(), 0).to_vec();
+    assert_eq!(taken, three);
+    let taken = frame_at(&four, &three, 0);
+    assert_eq!(taken.as_ptr_range(), three.as_ptr_range());
+    assert_eq!(taken, three);
+    assert_eq!(numbers(&four, &three, 0), (3, 0));
+    assert_eq!(numbers(&three, &four, 0), (0, 3));
+    assert_eq!(frame_at(&four, &four, 0), &[] as &[u8]);
 }
 
 #[test]

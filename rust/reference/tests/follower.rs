@@ -1,6 +1,6 @@
 //! Following the update number: every pair of updates, every change of kind, refusals, and numbers that no frame carries.
 mod common;
-use common::{record, written};
+use common::{flipped, record, written};
 use reference::follower::{follow, reset, Event, Kind, State};
 use reference::frame::{IDENTIFICATION, UPDATE};
 
@@ -74,6 +74,25 @@ fn a_refused_frame_keeps_the_state() {
             assert_eq!(follow(old, &vec![0; length]), (old, Event::Refused(1)));
         }
         assert_eq!(follow(old, &[0; 26]), (old, Event::Refused(3)));
+    }
+}
+
+/// Document 02, e): up to three differing bits of B1 to B16 change no event; four are a refusal.
+#[test]
+fn a_damaged_pattern() {
+    for old in [
+        State::Quiet,
+        State::Active(Kind::Real, 1),
+        State::Active(Kind::Test, 3),
+    ] {
+        for sent in [warning(0, 2), warning(1, 1), warning(3, 0), nothing()] {
+            for places in [&[16][..], &[1, 9], &[3, 4, 12]] {
+                let received = flipped(sent, places);
+                assert_eq!(follow(old, &received), follow(old, &sent), "{places:?}");
+            }
+            let four = flipped(sent, &[3, 4, 12, 16]);
+            assert_eq!(follow(old, &four), (old, Event::Refused(3)));
+        }
     }
 }
 

@@ -1,6 +1,6 @@
 //! Frames and records: document 01's worked examples, each refusal, their order, and the way there and back.
 mod common;
-use common::{frame, hex, record, written, ALL_AREAS};
+use common::{damage, frame, hex, record, written, ALL_AREAS};
 use reference::code::GENERATOR;
 use reference::frame::*;
 use reference::{flip_bit, put};
@@ -37,8 +37,8 @@ fn with(base: &Record, changes: &[(usize, u64)]) -> Record {
 #[test]
 fn pattern_0_with_all_else_zero() {
     let all = frame(ALL_AREAS);
-    let (read, places) = read(&all).expect("accepted");
-    assert_eq!((read, places), ([0; 18], 0));
+    let (read, put_right) = read(&all).expect("accepted");
+    assert_eq!((read, put_right), ([0; 18], damage(0, 0)));
     assert!((0..56).all(|area| warned(&read, area)));
     for area in [56, 63, 64, 1 << 32, u64::MAX] {
         assert!(!warned(&read, area), "area {area}");
@@ -78,7 +78,9 @@ fn first_refusals() {
 #[test]
 fn frames_with_several_faults() {
     for (digits, expected) in [
-        ("5af7000000000000000000000000004308c01110000000000000", 3),
+        // Nine hits, behind a pattern with four differing bits and with one.
+        ("62f7000000000000000000000000004308c01110000000000000", 3),
+        ("5af7000000000000000000000000004308c01110000000000000", 4),
         ("1af7040000000000000000000000dd3571e5e0074536075add60", 5),
         ("1af7640000000000000000000000dd6ba7e8239c630ae7c28140", 6),
         ("1af7077fffffff805fffffffffffcd3b0241c13d6f14b3b28d70", 7),
@@ -159,8 +161,8 @@ fn the_repair_alone_looks_at_b17_to_b203() {
 fn the_reference_bit_is_carried() {
     let mut set = frame(ALL_AREAS);
     set[0] = 0x9a;
-    let (read, places) = read(&set).expect("accepted");
-    assert_eq!((read[REFERENCE], places), (1, 0));
+    let (read, put_right) = read(&set).expect("accepted");
+    assert_eq!((read[REFERENCE], put_right), (1, damage(0, 0)));
     assert_eq!(written(&read), set);
 }
 
@@ -168,7 +170,7 @@ fn the_reference_bit_is_carried() {
 fn no_information() {
     let digits = "1af77fffffffffffffffffffffff698fbee80b006e0824cd3d10";
     let expected = record(&[(IDENTIFICATION, 7), (BROADCASTER, 2047)]);
-    assert_eq!(read(&frame(digits)), Ok((expected, 0)));
+    assert_eq!(read(&frame(digits)), Ok((expected, damage(0, 0))));
     assert_eq!(hex(&written(&expected)), digits);
 }
 
@@ -176,7 +178,7 @@ fn no_information() {
 fn a_cancellation() {
     let digits = "1af70000000001001fffffffffffe43d0ff2f235a3cbf9db1c70";
     let expected = record(&[(PAGE, 1), (KIND, 1)]);
-    assert_eq!(read(&frame(digits)), Ok((expected, 0)));
+    assert_eq!(read(&frame(digits)), Ok((expected, damage(0, 0))));
     assert_eq!(hex(&written(&expected)), digits);
 }
 
@@ -275,7 +277,7 @@ fn the_writers_buffer() {
 #[test]
 fn an_area_warning_without_area_is_accepted() {
     let without = record(&[(IDENTIFICATION, 1), (UPDATE, 3)]);
-    assert_eq!(read(&written(&without)), Ok((without, 0)));
+    assert_eq!(read(&written(&without)), Ok((without, damage(0, 0))));
 }
 
 #[test]
@@ -298,7 +300,7 @@ fn there_and_back_with_hits() {
                 flip_bit(&mut frame, 17 + 23 * i);
             }
             let expected = if hits < 9 {
-                Ok((base, hits as u8))
+                Ok((base, damage(hits as u8, 0)))
             } else {
                 Err(4)
             };

@@ -223,6 +223,51 @@ fn laying_in_and_taking_out() {
     assert_eq!(refusal(&header), 0);
 }
 
+/// Document 02, e): "laying in" carries the clean pattern, and B0 as it was received.
+#[test]
+fn laying_in_a_damaged_pattern() {
+    let before = written(&model());
+    let all = frame(ALL_AREAS);
+    // B0 clear and set; B16 is the highest bit of the third byte.
+    for (reference, pattern_0, pattern_1) in [(0, "1af700", "650880"), (1, "9af700", "e50880")] {
+        for (turned, expected) in [
+            (0, pattern_0),
+            (1, pattern_0),
+            (3, pattern_0),
+            (13, pattern_1),
+            (15, pattern_1),
+            (16, pattern_1),
+        ] {
+            let mut received = all;
+            put(&mut received, 0..=0, reference);
+            // From B16 down, so that the third byte's bit is among them.
+            for k in (1..=16).rev().take(turned) {
+                flip_bit(&mut received, k);
+            }
+            for power in &GENERATOR[..8] {
+                flip_bit(&mut received, 203 - power);
+            }
+            let mut header = before;
+            assert_eq!(lay_in(&mut header, &received), 0, "{turned} bits");
+            assert_eq!(hex(&header[99..102]), expected, "{turned} bits");
+            assert_eq!(header[102..124], all[3..25]);
+            assert_eq!(header[124], 0x0F);
+            assert_eq!(header[..99], before[..99]);
+            assert_eq!(header[125..184], before[125..184]);
+            assert_eq!(refusal(&header), 0);
+        }
+    }
+    for turned in 4..=12 {
+        let mut received = all;
+        for k in 1..=turned {
+            flip_bit(&mut received, k);
+        }
+        let mut header = before;
+        assert_eq!(lay_in(&mut header, &received), 3, "{turned} bits");
+        assert_eq!(header, before);
+    }
+}
+
 #[test]
 fn refused_headers_and_frames_change_nothing() {
     let good = written(&model());

@@ -1,6 +1,7 @@
 //! Frames, written as in the papers.
 #![allow(dead_code)]
-use reference::frame::{self, Record};
+use reference::flip_bit;
+use reference::frame::{self, Damage, Record};
 
 /// Document 01's example 11: pattern 0 with all else zero.
 pub const ALL_AREAS: &str = "1af70000000000000000000000000000000000000000000000";
@@ -27,6 +28,22 @@ pub fn record(fields: &[(usize, u64)]) -> Record {
         record[field] = value;
     }
     record
+}
+
+/// So many repaired places, and so many bits that differed from the pattern.
+pub fn damage(repaired: u8, differing: u8) -> Damage {
+    Damage {
+        repaired,
+        differing,
+    }
+}
+
+/// The frame with these bits turned over.
+pub fn flipped(mut frame: [u8; 26], places: &[usize]) -> [u8; 26] {
+    for &k in places {
+        flip_bit(&mut frame, k);
+    }
+    frame
 }
 
 /// The frame of a legal record.
