@@ -1,16 +1,16 @@
-//! Frames of all sorts: legal, damaged, with one fault, with several, noise, and of other lengths.
+//! Frames of all sorts: legal, damaged in the word or the pattern, with one fault, with several, noise, and of other lengths.
 use crate::records::{legal_record, Body, BODIES};
 use crate::Random;
 use reference::code::{encode, frame_of};
 use reference::crc::crc10;
-use reference::frame::{write, Record, IDENTIFICATION};
+use reference::frame::{write, Damage, Record, IDENTIFICATION, PATTERN, REFERENCE};
 use reference::{bit, flip_bit, get, put, FRAME_BYTES};
 
 /// What the frame's making says of its reading, without any repair.
 #[derive(Clone, Copy, Debug, PartialEq, Eq)]
 pub enum Expected {
-    /// This record was sent, and so many places were hit, eight at most.
-    Read(Record, u8),
+    /// This record; so many places were hit, eight at most, and so many bits of B1 to B16 differ from its pattern, three at most.
+    Read(Record, Damage),
     Refused(u8),
     /// More than nine places hit, or noise.
     Open,
@@ -23,7 +23,7 @@ pub struct Sample {
 
 /// A frame of any sort.
 pub fn frame(random: &mut Random) -> Sample {
-    match random.below(12) {
+    match random.below(13) {
         0 => open(noise(false, random)),
         1 => open(noise(true, random)),
         2 => open(random_message(random)),
@@ -34,6 +34,12 @@ pub fn frame(random: &mut Random) -> Sample {
         9 | 10 => {
             let fault = 1 + random.below(9) as u8;
             faulty(&[fault], random)
+        }
+        11 => {
+            let record = legal_record(random.pick(&BODIES), random);
+            let (flips, hits) = (random.below(17), random.below(11));
+            let filler = random.below(8) == 0;
+            damaged_pattern(&record, flips, hits, filler, random)
         }
         _ => {
             let faults: Vec<u8> = (1..=9).filter(|_| random.below(3) == 0).collect();
@@ -84,13 +90,13 @@ pub fn faulty(faults: &[u8], random: &mut Random) -> Sample {
         _ => random.below(9),
     };
     hit(&mut frame, hits, random);
-    if has(3) {
-        let count = 1 + random.below(15);
-        let places: [usize; 16] = std::array::from_fn(|i| 1 + i);
-        for k in random.choose(count, &places) {
-            flip_bit(&mut frame, k);
-        }
-    }
+    // Four to twelve differ in four or more from both patterns.
+    let flips = match (has(3), random.below(2)) {
+        (true, _) => 4 + random.below(9),
+        (_, 0) => 0,
+        _ => random.below(4),
+    };
+    flip_pattern(&mut frame, flips, random);
     if has(2) {
         put(&mut frame, 204..=207, 1 + random.up_to(14));
     }
@@ -100,11 +106,81 @@ pub fn faulty(faults: &[u8], random: &mut Random) -> Sample {
         bytes.resize(length + usize::from(length == FRAME_BYTES), 0);
     }
     let expected = match faults.iter().min() {
-        None => Expected::Read(record, hits as u8),
+        None => Expected::Read(record, damage(hits, flips)),
         Some(4) if hits > 9 => Expected::Open,
         Some(&number) => Expected::Refused(number),
     };
     Sample { bytes, expected }
+}
+
+/// Frames with every number of bits of B1 to B16 turned over, 0 to 16, and every number of places hit, 0 to 10: for each body of the details,
+/// each pattern and each B0. After each number of bits comes one with a filler bit too.
+pub fn damaged_patterns(random: &mut Random) -> Vec<Sample> {
+    let mut samples = vec![];
+    for body in BODIES {
+        for (pattern, reference) in [(0, 0), (0, 1), (1, 0), (1, 1)] {
+            for flips in 0..=16 {
+                for hits in 0..=10 {
+                    let record = legal_with(body, pattern, reference, random);
+                    samples.push(damaged_pattern(&record, flips, hits, false, random));
+                }
+                let record = legal_with(body, pattern, reference, random);
+                let hits = random.below(11);
+                samples.push(damaged_pattern(&record, flips, hits, true, random));
+            }
+        }
+    }
+    samples
+}
+
+/// A legal record of this body with this pattern and B0.
+fn legal_with(body: Body, pattern: u64, reference: u64, random: &mut Random) -> Record {
+    let mut record = legal_record(body, random);
+    record[PATTERN] = pattern;
+    record[REFERENCE] = reference;
+    record
+}
+
+/// The frame of a legal record with so many of B1 to B16 turned over, so many places hit, and, if asked, a filler bit that is 1.
+fn damaged_pattern(
+    record: &Record,
+    flips: usize,
+    hits: usize,
+    filler: bool,
+    random: &mut Random,
+) -> Sample {
+    let mut frame = written(record);
+    flip_pattern(&mut frame, flips, random);
+    hit(&mut frame, hits, random);
+    if filler {
+        flip_bit(&mut frame, 204 + random.below(4));
+    }
+    // Thirteen or more turned over are three or fewer away from the other pattern.
+    let mut nearest = *record;
+    let mut differing = flips;
+    if flips >= 13 {
+        nearest[PATTERN] = 1 - record[PATTERN];
+        differing = 16 - flips;
+    }
+    let expected = match (filler, differing, hits) {
+        (true, _, _) => Expected::Refused(2),
+        (_, 4.., _) => Expected::Refused(3),
+        (_, _, 0..=8) => Expected::Read(nearest, damage(hits, differing)),
+        (_, _, 9) => Expected::Refused(4),
+        _ => Expected::Open,
+    };
+    Sample {
+        bytes: frame.to_vec(),
+        expected,
+    }
+}
+
+/// So many hits, eight at most, and so many bits that differ from the pattern, three at most.
+fn damage(hits: usize, differing: usize) -> Damage {
+    Damage {
+        repaired: hits as u8,
+        differing: differing as u8,
+    }
 }
 
 /// The frame of a legal record.
@@ -117,6 +193,14 @@ pub fn written(record: &Record) -> [u8; FRAME_BYTES] {
 /// Turns over this many of B17 to B203.
 pub fn hit(frame: &mut [u8], count: usize, random: &mut Random) {
     let places: [usize; 187] = std::array::from_fn(|i| 17 + i);
+    for k in random.choose(count, &places) {
+        flip_bit(frame, k);
+    }
+}
+
+/// Turns over this many of B1 to B16.
+fn flip_pattern(frame: &mut [u8], count: usize, random: &mut Random) {
+    let places: [usize; 16] = std::array::from_fn(|i| 1 + i);
     for k in random.choose(count, &places) {
         flip_bit(frame, k);
     }
