@@ -94,7 +94,7 @@ pub fn repair_register(frame: &[u8], word: &mut [u8]) -> u32 {
     }
 }
 
-/// The number and 256 times the repaired places; `record` has 18 values.
+/// The number, 256 times the repaired places and 65536 times the bits of B1 to B16 that differed; `record` has 18 values.
 pub fn frame_read(frame: &[u8], record: &mut [u64]) -> u32 {
     unsafe {
         archive::gvz_frame_read(

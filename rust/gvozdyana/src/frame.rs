@@ -220,13 +220,15 @@ impl Record {
     }
 }
 
-/// An accepted frame's record, and the number of its repaired places.
+/// An accepted frame's record, and what was damaged in the frame.
 #[derive(Clone, Copy, Debug, PartialEq, Eq)]
 pub struct Reading {
     /// What the frame says.
     pub record: Record,
     /// The number of repaired places, 0 to 8.
     pub repaired: u8,
+    /// How many bits of B1 to B16 differed from the pattern, 0 to 3. They are not among the repaired places.
+    pub differing: u8,
 }
 
 /// Reads a frame. Refuses 1 to 9.
@@ -240,16 +242,23 @@ pub struct Reading {
 /// // Pattern 0 with all else zero is a real warning for all areas.
 /// (frame[0], frame[1]) = (0x1A, 0xF7);
 /// let reading = read(&frame)?;
-/// assert_eq!(reading.repaired, 0);
+/// assert_eq!((reading.repaired, reading.differing), (0, 0));
 /// assert_eq!(reading.record.warned_areas().count(), 56);
+/// // B1 to B3 received wrongly: the same record. Four bits from both patterns are refused.
+/// frame[0] ^= 0x70;
+/// let damaged = read(&frame)?;
+/// assert_eq!((damaged.record, damaged.differing), (reading.record, 3));
+/// frame[0] ^= 0x08;
+/// assert_eq!(read(&frame), Err(Refusal::NoPattern));
 /// # Ok::<(), Refusal>(())
 /// ```
 pub fn read(frame: &[u8]) -> Result<Reading, Refusal> {
     let mut values = [0; FRAME_VALUES];
-    let repaired = told(calls::frame_read(frame, &mut values))?;
+    let [repaired, differing, ..] = told(calls::frame_read(frame, &mut values))?.to_le_bytes();
     Ok(Reading {
         record: Record::from_values(values),
-        repaired: repaired as u8,
+        repaired,
+        differing,
     })
 }
 

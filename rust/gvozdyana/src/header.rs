@@ -143,7 +143,7 @@ pub fn write_into(header: &Header, bytes: &mut [u8]) -> Result<(), Refusal> {
     told(calls::header_write(&header.values(), bytes)).map(|_| ())
 }
 
-/// Lays a frame, repaired, into a header. Refuses the header as [`read`] does, then the frame as [`frame::read`](crate::frame::read) does;
+/// Lays a frame, repaired and with the clean pattern, into a header. Refuses the header as [`read`] does, then the frame as [`frame::read`](crate::frame::read) does;
 /// the header is then as it was.
 ///
 /// ```

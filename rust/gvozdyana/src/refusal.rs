@@ -32,7 +32,7 @@ macro_rules! refusals {
 refusals! {
     WrongLength = 1, "a frame is not 26 bytes, a header is not 188, a frame number is past the capture, or a buffer has another length than the one named";
     FillerSet = 2, "a filler bit is 1";
-    NoPattern = 3, "B1 to B16 are neither pattern";
+    NoPattern = 3, "four bits or more of B1 to B16 differ from both patterns";
     BeyondRepair = 4, "no code word lies within eight places";
     FrameCrc = 5, "the CRC differs, in the repaired word";
     Identification = 6, "the identification is 4, 5 or 6, or above 7 in a record";

@@ -112,8 +112,8 @@ fn areas_of_frames_read() {
         let Ok(reading) = read(&bytes) else { return };
         let what = || format!("frame {}, {case}", hex(&bytes));
         compared(&reading.record.values(), case);
-        let whole = match reading.repaired {
-            0 => bytes.clone(),
+        let whole = match (reading.repaired, reading.differing) {
+            (0, 0) => bytes.clone(),
             _ => plain::clean(&bytes).expect("accepted").to_vec(),
         };
         for area in asked() {

@@ -2,10 +2,11 @@
 //! frame made with faults to the first of them.
 mod common;
 use common::{for_each_seed, frames, hex, length, numbers, Case};
-use gvozdyana::frame::{read, write, Record};
+use gvozdyana::frame::{read, write, Reading, Record};
 use gvozdyana::{calls, repair, Refusal};
-use reference::{flip_bit, frame as plain};
-use samples::frames::{faulty, frame, open, sealed, written, Expected, Sample};
+use reference::frame::Damage;
+use reference::{flip_bit, frame as plain, put};
+use samples::frames::{damaged_patterns, faulty, frame, open, sealed, written, Expected, Sample};
 use samples::records::{legal_record, record, BODIES, WIDTHS};
 
 /// The proved reader's status and buffer are the plain version's, and so is the repair; then the refusal's number.
@@ -22,13 +23,14 @@ fn compared(sample: &Sample, record_len: usize, before: &[u64], case: Case) -> u
         18 => plain::read(&sample.bytes),
         _ => Err(1),
     };
-    let (number, places) = answer.map_or_else(|number| (number, 0), |(_, places)| (0, places));
-    assert_eq!(
-        status,
-        u32::from(number) + 256 * u32::from(places),
-        "{}",
-        what()
-    );
+    let nothing = Damage {
+        repaired: 0,
+        differing: 0,
+    };
+    let (number, damage) =
+        answer.map_or_else(|number| (number, nothing), |(_, damage)| (0, damage));
+    let told = u32::from_le_bytes([number, damage.repaired, damage.differing, 0]);
+    assert_eq!(status, told, "{}", what());
     let mut expected = before.to_vec();
     if let Ok((record, _)) = answer {
         expected[..18].copy_from_slice(&record);
@@ -36,7 +38,7 @@ fn compared(sample: &Sample, record_len: usize, before: &[u64], case: Case) -> u
     assert_eq!(left, expected, "{}", what());
     match sample.expected {
         _ if record_len != 18 => assert_eq!(number, 1, "{}", what()),
-        Expected::Read(record, hits) => assert_eq!(answer, Ok((record, hits)), "{}", what()),
+        Expected::Read(record, damage) => assert_eq!(answer, Ok((record, damage)), "{}", what()),
         Expected::Refused(first) => assert_eq!(number, first, "{}", what()),
         Expected::Open => {}
     }
@@ -68,6 +70,30 @@ fn legal_frames_hit_in_up_to_14_places() {
             _ => faulty(&[], random),
         };
         compared(&sample, 18, &[7; 18], case);
+    });
+}
+
+#[test]
+fn damaged_synchronising_bits() {
+    let mut seen = [0; 5];
+    for_each_seed(17, 20, |random, case| {
+        for sample in damaged_patterns(random) {
+            seen[usize::from(compared(&sample, 18, &[7; 18], case))] += 1;
+        }
+    });
+    println!("accepted and refused 1 to 4: {seen:?}");
+    assert!(seen[0] > 0 && seen[2] > 0 && seen[3] > 0 && seen[4] > 0);
+}
+
+#[test]
+fn every_value_of_b1_to_b16() {
+    for_each_seed(18, 2, |random, case| {
+        let legal = written(&legal_record(random.pick(&BODIES), random));
+        for synchronising in 0..65536 {
+            let mut frame = legal;
+            put(&mut frame, 1..=16, synchronising);
+            compared(&open(frame), 18, &[7; 18], case);
+        }
     });
 }
 
@@ -143,8 +169,12 @@ fn legal_records_come_back() {
         assert_eq!(record.values(), values);
         let frame =
             write(&record).unwrap_or_else(|refusal| panic!("{refusal}: {record:?}, {case}"));
-        let reading = read(&frame).map(|reading| (reading.record, reading.repaired));
-        assert_eq!(reading, Ok((record, 0)), "{case}");
+        let expected = Reading {
+            record,
+            repaired: 0,
+            differing: 0,
+        };
+        assert_eq!(read(&frame), Ok(expected), "{case}");
     });
 }
 

@@ -5,9 +5,9 @@ use reference::frame::{self, Record, BROADCASTER, IDENTIFICATION, LATITUDE, LONG
 pub(crate) const OPERATIONS: [Operation; 3] = [
     lending("frame_read", |call| match frame::read(&call.input) {
         _ if call.values.len() != 18 => status(1, 0),
-        Ok((record, places)) => {
+        Ok((record, damage)) => {
             call.values = record.to_vec();
-            status(0, places)
+            status(0, damage.repaired) + 65536 * u64::from(damage.differing)
         }
         Err(number) => status(number, 0),
     }),
@@ -48,7 +48,7 @@ pub(crate) fn cases() -> Vec<Case> {
             written(),
         ),
         because(
-            "each refusal of a frame, alone and before others, hits, and a frame of each body",
+            "each refusal of a frame, alone and before others, hits, a frame of each body, and its synchronising bits turned over one by one",
             read(),
         ),
         because(
@@ -165,7 +165,6 @@ const FRAMES: &str = "
 9af7000000000000000000000000000000000000000000000000 | 0 1 0*17 | all areas with B0
 0000000000000000000000000000000000000000000000000001 | 2 .. | a filler bit, before the pattern
 1af7000000000000000000000000000000000000000000000001 | 2 .. | a filler bit alone
-5af7000000000000000000000000004308c01110000000000000 | 3 .. | no pattern and nine hits
 1af7040000000000000000000000dd3571e5e0074536075add60 | 5 .. | identification 4, the CRC wrong
 1af7640000000000000000000000dd6ba7e8239c630ae7c28140 | 6 .. | identification 4, start/end 11
 1af7077fffffff805fffffffffffcd3b0241c13d6f14b3b28d70 | 7 .. | identification 7, start/end 00 and update 00, a fixed bit 0
@@ -182,9 +181,27 @@ const FRAMES: &str = "
 1af700000000000000000000000000000000000000000000000000 | 1 .. | 27 bytes
 ";
 
+/// The same of frames whose synchronising bits are damaged, by document 02.
+const DAMAGED_PATTERNS: &str = "
+5af7000000000000000000000000004308c01110000000000000 | 4 .. | one bit of the pattern and nine hits
+62f7000000000000000000000000004308c01110000000000000 | 3 .. | four bits of the pattern and nine hits
+5af7000000000000000000000000000000000000000000000000 | 10000 0*18 | all areas, B1 differs
+1af7800000000000000000000000000000000000000000000000 | 10000 0*18 | all areas, B16 differs
+6af7000000000000000000000000000000000000000000000000 | 30000 0*18 | all areas, B1 to B3 differ
+6af7000000000000000000000000004308c01100000000000000 | 30800 0*18 | all areas, B1 to B3 differ, eight hits
+eaf7000000000000000000000000000000000000000000000000 | 30000 1 0*17 | all areas with B0, B1 to B3 differ
+62f7000000000000000000000000000000000000000000000000 | 3 .. | four bits from pattern 0
+650f000000000000000000000000000000000000000000000000 | 3 .. | four bits from pattern 1
+650b000000000000000000000000000000000000000000000000 | 30000 0 1 0*16 | three bits from pattern 1, all areas
+6508800000000000000000000000000000000000000000000000 | 0 0 1 0*16 | pattern 1 with all else zero
+62f7000000000000000000000000000000000000000000000001 | 2 .. | a filler bit, and four bits from pattern 0
+";
+
 /// The frames, and what they are.
 pub(crate) fn frames() -> impl Iterator<Item = (Vec<u8>, &'static str)> {
-    rows(FRAMES).map(|[digits, _, what]| (hex(digits), what))
+    rows(FRAMES)
+        .chain(rows(DAMAGED_PATTERNS))
+        .map(|[digits, _, what]| (hex(digits), what))
 }
 
 /// The frame whose description begins so.
@@ -195,19 +212,28 @@ pub(crate) fn frame(name: &str) -> Vec<u8> {
 
 fn read() -> Vec<Case> {
     let case = |what: String, frame: &[u8]| Case::new("frame_read", what).input(frame).values(18);
-    let mut cases: Vec<Case> = rows(FRAMES)
-        .map(|[digits, answer, what]| {
+    let tables = [
+        (FRAMES, "document 01's rules"),
+        (DAMAGED_PATTERNS, "document 02, e)"),
+    ];
+    let mut cases = vec![];
+    for (table, from) in tables {
+        cases.extend(rows(table).map(|[digits, answer, what]| {
             let case = case(what.to_owned(), &hex(digits));
             match answer {
                 "-" => case,
-                _ => case.known("document 01's rules", answer),
+                _ => case.known(from, answer),
             }
-        })
-        .collect();
+        }));
+    }
     for (body, base) in bases() {
         let mut frame = [0; 26];
         frame::write(&base, &mut frame);
         cases.push(case(format!("{body}: what the writer wrote"), &frame));
+        for n in 1..=16 {
+            reference::flip_bit(&mut frame, n);
+            cases.push(case(format!("{body}: B1 to B{n} turned over"), &frame));
+        }
     }
     for n in [0, 17, 19] {
         cases.push(

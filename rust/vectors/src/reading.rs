@@ -4,9 +4,12 @@ use reference::frame::read;
 /// The line of frame n.
 pub fn reading(n: usize, frame: &[u8]) -> String {
     match read(frame) {
-        Ok((record, places)) => {
+        Ok((record, damage)) => {
             let fields = record.map(|value| value.to_string()).join(" ");
-            format!("{n} accepted {places} {fields}\n")
+            format!(
+                "{n} accepted {} {} {fields}\n",
+                damage.repaired, damage.differing
+            )
         }
         Err(number) => format!("{n} refused {number}\n"),
     }

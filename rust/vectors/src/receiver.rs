@@ -111,7 +111,7 @@ fn written(identification: u64, update: u64, broadcaster: u64) -> Frame {
     frame
 }
 
-/// Frames of every kind: identifications 0 to 3 with updates 0 to 3; no information; pieces that are no frame; 26 and 27 zeros.
+/// Frames of every kind: identifications 0 to 3 with updates 0 to 3; no information; synchronising bits damaged; pieces that are no frame; 26 and 27 zeros.
 fn frames() -> Vec<(String, Vec<u8>)> {
     let warning = |n: u64| {
         let what = format!("identification {}, update {}", n / 4, n % 4);
@@ -119,6 +119,10 @@ fn frames() -> Vec<(String, Vec<u8>)> {
     };
     let mut frames: Vec<_> = (0..16).map(warning).collect();
     frames.push(("no information".to_owned(), written(7, 0, 5).to_vec()));
+    for n in [3, 4] {
+        let what = format!("identification 0, update 2, {n} synchronising bits");
+        frames.push((what, turned(written(0, 2, 0), n).to_vec()));
+    }
     let frame = written(0, 0, 0);
     for piece in [&frame[..0], &frame[..5], &frame[..25], &[0; 26], &[0; 27]] {
         let zeros = if piece.len() > 25 {
@@ -145,6 +149,10 @@ pub(crate) fn cases() -> Vec<Case> {
         because(
             "main before spare, captures cut at every part of a frame, frame numbers past them",
             tuners(),
+        ),
+        because(
+            "a damaged pattern is accepted with three bits and not with four, and handed out as received",
+            damaged_patterns(),
         ),
     ]
     .concat()
@@ -237,6 +245,35 @@ fn hit(mut frame: Frame, more: u8) -> Frame {
     frame[3] ^= 255;
     frame[4] ^= more;
     frame
+}
+
+/// The first n synchronising bits turned over.
+fn turned(mut frame: Frame, n: usize) -> Frame {
+    for k in 1..=n {
+        reference::flip_bit(&mut frame, k);
+    }
+    frame
+}
+
+/// Main's frame has synchronising bits that differ, three and four: the bytes that are handed out are those received.
+fn damaged_patterns() -> Vec<Case> {
+    let sent = written(0, 1, 0);
+    let mut cases = vec![];
+    for (n, source) in [(3, "1"), (4, "2")] {
+        let input = [turned(sent, n), sent].concat();
+        let what = format!("main's frame with {n} synchronising bits turned over");
+        let case = |operation| {
+            Case::new(operation, what.clone())
+                .numbers(&[26, 0])
+                .input(&input)
+        };
+        cases.extend([
+            case("capture_source").known("document 02, e)", source),
+            case("capture_numbers"),
+            case("frame_at").lent(&[0xA5; 26]),
+        ]);
+    }
+    cases
 }
 
 /// Captures of three frames each, cut to every pair of lengths, and asked for frames inside them and past them.
