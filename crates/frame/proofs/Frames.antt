@@ -77,7 +77,7 @@ bits-frame r =
     let m = messageBits r in
     let p = parityOf m in
     bits-bytes 26 (bitsOf 1 (r .reference) ++ (patternBits (r .pattern) ++ (m ++ (p ++ zeros 4))))
-    (simp (length-append, length-bitsOf, length-pattern) (omega (arith, length-message r, length-parity m (length-message r))))
+    (simp (length-append, length-bitsOf) (omega (arith, length-message r, length-parity m (length-message r))))
     ∙ ap (λ (l : List Bool). bitsOf 1 (r .reference) ++ (patternBits (r .pattern) ++ l)) (sym (append-assoc m p (zeros 4)))
 
 pub parts-frame : (r : Record) → FrameParts (frameOf r) (bitsOf 1 (r .reference)) (patternBits (r .pattern)) (wordOf r) (zeros 4)

@@ -31,11 +31,12 @@ use Rattle.sync_pattern.proofs.Patterns.{fitting}
 use Rattle.frame.specs.Identification.{classOf, startEndOf, updateOf, isUndefined}
 use Rattle.frame.specs.Body.{bodyOf, layout, ownUpdate}
 use Rattle.frame.specs.Fields.{fields, fieldWidths, bodyValues, recordBody, overLimit}
-use Rattle.frame.specs.Read.{identificationIn, classIn, bodyIn, detailsIn, valuesIn, recordIn, syncIn, beforeRepair, afterRepair, frameRefusal, placesIn, readOf}
+use Rattle.frame.specs.Read.{identificationIn, classIn, bodyIn, detailsIn, valuesIn, recordIn, syncIn, beforeRepair, afterRepair, frameRefusal, placesIn, damageIn, readOf}
 use Rattle.frame.specs.Write.{Legal, announced, messageBits}
 use Rattle.frame.specs.declared.Class.{Class}
 use Rattle.frame.specs.declared.Body.{Body}
 use Rattle.frame.specs.declared.Body.the-variants.{AreaPage, PlacePage, CancelPage, NoInformation}
+use Rattle.frame.specs.declared.Damage.{Damage}
 use Rattle.frame.specs.declared.Reading.the-variants.{Accepted}
 use Rattle.frame.proofs.Parts.{regroup, inner-part, part-split, part-bits, length-part, frame-bits, word-split}
 use Rattle.frame.proofs.Bodies.{layout-sum, Chosen, area, place, cancel, silent, undefined, chosen, sound-legal, record-values, record-fit, record-body, taken}
@@ -108,10 +109,15 @@ module _ (f : List ℕ) (j : Judged f) where
   unfolding placesIn
   judged-places = rw (judged-accepted, j .repaired)
 
+  judged-damage : _≡_ {A = Damage} (damageIn f) (record { repaired = j .places; differing = j .differing })
+  judged-damage = ap₂ (λ (m n : ℕ). record { repaired = m; differing = n }) judged-places (ap fittingDiffering (j .sync))
+
   pub judged-read : readOf f
       ≡ Accepted (recordIn (fieldAt f 0 1) (j .pattern) (wordBytes (j .word))) (record { repaired = j .places; differing = j .differing })
   unfolding readOf
-  judged-read = rw (judged-accepted, judged-places, j .repaired, j .sync)
+  judged-read =
+      rw judged-accepted
+      (ap₂ Accepted (ap₂ (λ (p : ℕ) (a : Answer). recordIn (fieldAt f 0 1) p (a .word)) (ap fittingPattern (j .sync)) (j .repaired)) judged-damage)
 
   -- the word differs from the received bits in as many places, at most eight
   pub judged-dist : (j .places ≡ dist (protected f) (j .word)) × (j .places ≤ 8)

@@ -1,5 +1,5 @@
 -- The two patterns, and how far 16 bits are from them. Assumes nothing.
-use mathlib.Core.Path.{_≡_, refl, sym, ap, ap₂, _∙_}
+use mathlib.Core.Path.{_≡_, refl, sym, ap, ap₂, _∙_, subst}
 use mathlib.Core.Bool.{Bool, true, false, true≢false, not, cond}
 use mathlib.Core.List.{List, [], _∷_, map}
 use Prim.Native.Nat.{ℕ, zero, suc, _+_, _%_, _^_, _≤_, _<_}
@@ -18,7 +18,6 @@ use Rattle.dsc.specs.Code.{weight, dist}
 use Rattle.dsc.proofs.Weight.{weight-bitsOf}
 use Rattle.dsc.proofs.Distance.{dist-hit}
 use Rattle.sync_pattern.specs.Pattern.{patternWord, patternBits, differingFrom, syncLimit, syncOf, isNeither, fittingPattern, fittingDiffering}
-use Rattle.sync_pattern.specs.Promises.{Far, Fitting}
 use Rattle.sync_pattern.specs.declared.Sync.{Sync}
 use Rattle.sync_pattern.specs.declared.Sync.the-variants.{Fits, Neither}
 
@@ -68,33 +67,41 @@ differing-ones p n = ap weight (add-bitsOf 16 n (patternWord p)) ∙ weight-bits
 -- ---- the answer, by what the tests say
 
 module _ (s : List Bool) where
+  -- whether 0 fits, and whether 1 does
+  chosen : (a b : Bool) → Sync
+  chosen a b = cond a (Fits 0 (differingFrom 0 s)) (cond b (Fits 1 (differingFrom 1 s)) Neither)
+
+  by-tests : (a b : Bool) → leb (differingFrom 0 s) syncLimit ≡ a → leb (differingFrom 1 s) syncLimit ≡ b → chosen a b ≡ syncOf s
+  unfolding chosen syncOf
+  by-tests a b ea eb = sym (ap₂ chosen ea eb)
+
   pub fits-0 : differingFrom 0 s ≤ syncLimit → Fits 0 (differingFrom 0 s) ≡ syncOf s
-  unfolding syncOf
-  fits-0 h = rw (le-leb (differingFrom 0 s) 3 h)
+  unfolding chosen
+  fits-0 h = by-tests true (leb (differingFrom 1 s) syncLimit) (le-leb (differingFrom 0 s) syncLimit h) refl
 
   pub fits-1 : syncLimit < differingFrom 0 s → differingFrom 1 s ≤ syncLimit → Fits 1 (differingFrom 1 s) ≡ syncOf s
-  unfolding syncOf
-  fits-1 g h = rw (lt-leb (differingFrom 0 s) 3 g, le-leb (differingFrom 1 s) 3 h)
+  unfolding chosen
+  fits-1 g h = by-tests false true (lt-leb (differingFrom 0 s) syncLimit g) (le-leb (differingFrom 1 s) syncLimit h)
 
   pub fits-neither : syncLimit < differingFrom 0 s → syncLimit < differingFrom 1 s → Neither ≡ syncOf s
-  unfolding syncOf
-  fits-neither g h = rw (lt-leb (differingFrom 0 s) 3 g, lt-leb (differingFrom 1 s) 3 h)
+  unfolding chosen
+  fits-neither g h = by-tests false false (lt-leb (differingFrom 0 s) syncLimit g) (lt-leb (differingFrom 1 s) syncLimit h)
 
   -- the three cases, and that there is no other
   pub data Answered : Sync → Type 0 where
-    is-0 : differingFrom 0 s ≤ 3 → Answered (Fits 0 (differingFrom 0 s))
-    is-1 : 4 ≤ differingFrom 0 s → differingFrom 1 s ≤ 3 → Answered (Fits 1 (differingFrom 1 s))
-    is-neither : Far s → Answered Neither
+    is-0 : differingFrom 0 s ≤ syncLimit → Answered (Fits 0 (differingFrom 0 s))
+    is-1 : differingFrom 1 s ≤ syncLimit → Answered (Fits 1 (differingFrom 1 s))
+    is-neither : syncLimit < differingFrom 0 s → syncLimit < differingFrom 1 s → Answered Neither
 
   pub answered : Answered (syncOf s)
-  unfolding syncOf
-  answered = go (leb (differingFrom 0 s) 3) (leb (differingFrom 1 s) 3) refl refl
+  unfolding chosen
+  answered = go (leb (differingFrom 0 s) syncLimit) (leb (differingFrom 1 s) syncLimit) refl refl
     where
-      go : (a b : Bool) → leb (differingFrom 0 s) 3 ≡ a → leb (differingFrom 1 s) 3 ≡ b
-          → Answered (cond a (Fits 0 (differingFrom 0 s)) (cond b (Fits 1 (differingFrom 1 s)) Neither))
-      go true b ea eb = is-0 (leb-true (differingFrom 0 s) 3 ea)
-      go false true ea eb = is-1 (leb-false (differingFrom 0 s) 3 ea) (leb-true (differingFrom 1 s) 3 eb)
-      go false false ea eb = is-neither (record { from-0 = leb-false (differingFrom 0 s) 3 ea; from-1 = leb-false (differingFrom 1 s) 3 eb })
+      go : (a b : Bool) → leb (differingFrom 0 s) syncLimit ≡ a → leb (differingFrom 1 s) syncLimit ≡ b → Answered (syncOf s)
+      go true b ea eb = subst Answered (by-tests true b ea eb) (is-0 (leb-true (differingFrom 0 s) syncLimit ea))
+      go false true ea eb = subst Answered (by-tests false true ea eb) (is-1 (leb-true (differingFrom 1 s) syncLimit eb))
+      go false false ea eb =
+          subst Answered (by-tests false false ea eb) (is-neither (leb-false (differingFrom 0 s) syncLimit ea) (leb-false (differingFrom 1 s) syncLimit eb))
 
 -- bits that are not neither fit
 pub fitting : (y : Sync) → isNeither y ≡ false → y ≡ Fits (fittingPattern y) (fittingDiffering y)

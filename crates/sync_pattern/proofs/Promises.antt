@@ -42,11 +42,11 @@ fits-only s p d e = go (syncOf s) (answered s) e
         let ep : 0 ≡ p = cc in
         let ed : differingFrom 0 s ≡ d = cc in
         record { pattern = omega arith; differing = sym ed ∙ ap (λ (k : ℕ). differingFrom k s) ep; few = omega arith }
-    go _ (is-1 g h) q =
+    go _ (is-1 h) q =
         let ep : 1 ≡ p = cc in
         let ed : differingFrom 1 s ≡ d = cc in
         record { pattern = omega arith; differing = sym ed ∙ ap (λ (k : ℕ). differingFrom k s) ep; few = omega arith }
-    go _ (is-neither f) q = let z : _≡_ {A = ℕ} 0 1 = cc in absurd (omega arith)
+    go _ (is-neither g h) q = let z : _≡_ {A = ℕ} 0 1 = cc in absurd (omega arith)
 
 neither : (s : List Bool) → Far s → syncOf s ≡ Neither
 neither s f = sym (fits-neither s (f .from-0) (f .from-1))
@@ -56,8 +56,8 @@ neither-only s e = go (syncOf s) (answered s) e
   where
     go : (a : Sync) → Answered s a → a ≡ Neither → Far s
     go _ (is-0 h) q = let z : _≡_ {A = ℕ} 0 1 = cc in absurd (omega arith)
-    go _ (is-1 g h) q = let z : _≡_ {A = ℕ} 0 1 = cc in absurd (omega arith)
-    go _ (is-neither f) q = f
+    go _ (is-1 h) q = let z : _≡_ {A = ℕ} 0 1 = cc in absurd (omega arith)
+    go _ (is-neither g h) q = record { from-0 = g; from-1 = h }
 
 -- ---- a pattern that was hit
 
