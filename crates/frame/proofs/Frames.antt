@@ -1,13 +1,11 @@
 -- The frame of a legal record: its parts, and what is read of its word. Assumes nothing.
 use mathlib.Core.Path.{_≡_, refl, sym, ap, ap₂, _∙_, subst}
-use mathlib.Core.Bool.{Bool, true, false, cond, not}
-use mathlib.Core.Logic.{_≢_}
+use mathlib.Core.Bool.{Bool, true, false, not}
 use mathlib.Core.List.{List, [], _∷_, _++_, append-assoc}
-use Prim.Native.Nat.{ℕ, zero, suc, _+_, _^_, _≤_, _<_}
+use Prim.Native.Nat.{ℕ, _+_, _^_, _≤_, _<_}
 use native.Mathlib.Omega.{arith}
-use lib.Dec.{eqb}
 use lib.ListN.{length, take, drop, length-append, length-replicate}
-use borrow.Author.Tests.{eq-eqb, eqb-true}
+use borrow.Author.Tests.{eq-eqb}
 use Rattle.bits.specs.Bits.{value, bitsOf, bits}
 use Rattle.bits.specs.Field.{fieldAt}
 use Rattle.bits.specs.Layout.{Fit}
@@ -40,7 +38,7 @@ use Rattle.frame.specs.declared.Class.the-variants.{Warning, Silent, Und
 use Rattle.frame.specs.declared.Body.{Body}
 use Rattle.frame.specs.declared.Body.the-variants.{AreaPage, PlacePage, CancelPage, NoInformation}
 use Rattle.frame.specs.declared.Record.{Record}
-use Rattle.frame.proofs.Parts.{regroup, take-drop-take, inner-part, FrameParts, frame-parts, WordParts, word-parts}
+use Rattle.frame.proofs.Parts.{regroup, inner-part, FrameParts, frame-parts, WordParts, word-parts}
 use Rattle.frame.proofs.Bodies.{layout-sum, Chosen, area, place, cancel, silent, undefined, chosen, legal-sound, heads, own-update, body-fit, body-record, body-again, taken}
 
 -- ---- the parts' sizes

@@ -7,7 +7,6 @@ use Prim.Native.Nat.{ℕ, _+_, _≤_, _<_}
 use native.Mathlib.Omega.{arith}
 use lib.Dec.{eqb}
 use lib.ListN.{length, take, drop, getD, length-append, length-drop}
-use lib.Seq.{take-all, take-at, drop-at, length-take-le}
 use borrow.Author.Tests.{eq-eqb, ne-eqb, eqb-true, eqb-false}
 use Rattle.bits.specs.Bits.{odd, bitsOf, bits, bytes, Bytes}
 use Rattle.bits.specs.Field.{fieldAt}
@@ -27,7 +26,6 @@ use Rattle.sync_pattern.specs.Promises.{Far, Fitting}
 use Rattle.sync_pattern.proofs.Patterns.{differing-dist, fitting-none}
 use Rattle.sync_pattern.proofs.Promises.{pattern-test}
 use Rattle.frame.specs.Body.{row}
-use Rattle.frame.specs.Fields.{recordBody}
 use Rattle.frame.specs.Read.{identificationIn, bodyIn, valuesIn, recordIn, syncBits, syncIn, afterRepair, frameRefusal, placesIn, noDamage, judgeOf, readOf, readingNumber, readingPlaces, readingDiffering, readingFields, cleanOf}
 use Rattle.frame.specs.Area.{warnedIn}
 use Rattle.frame.specs.Write.{Legal, messageBits, recordRefusal, frameOf, writeNumber, writeOf}

@@ -7,7 +7,7 @@ use Prim.Native.Nat.{ℕ, _≤_, _<_}
 use native.Mathlib.Omega.{arith}
 use lib.Dec.{eqb}
 use lib.ListN.{length, take, drop}
-use borrow.Author.Tests.{eq-eqb, ne-eqb, eqb-true, eqb-false, not-false}
+use borrow.Author.Tests.{eq-eqb, eqb-true, not-false}
 use Rattle.bits.specs.Bits.{value, bitsOf, bits}
 use Rattle.bits.specs.Field.{fieldAt}
 use Rattle.bits.specs.Layout.{Fit}
@@ -25,7 +25,6 @@ use Rattle.dsc.proofs.Word.{length-word, parity-only}
 use Rattle.dsc.proofs.Decoding.{Nearest, one, none, nearest}
 use Rattle.dsc.proofs.Answers.{length-protected, length-wordBytes, protected-wordBytes, repair-found, repair-none}
 use Rattle.sync_pattern.specs.Pattern.{isNeither, fittingPattern, fittingDiffering}
-use Rattle.sync_pattern.specs.declared.Sync.{Sync}
 use Rattle.sync_pattern.specs.declared.Sync.the-variants.{Fits}
 use Rattle.sync_pattern.proofs.Patterns.{fitting}
 use Rattle.frame.specs.Identification.{classOf, startEndOf, updateOf, isUndefined}

@@ -17,7 +17,6 @@ use Rattle.bits.proofs.Layouts.{fitb-fit}
 use Rattle.bits.proofs.Refusal.{refusal-here, refusal-later, refusal-append-given}
 use Rattle.gf2.specs.Polynomial.{add}
 use Rattle.dsc.specs.Repair.{numberOf, repairOf}
-use Rattle.dsc.specs.Code.{dist}
 use Rattle.sync_pattern.specs.Pattern.{isNeither, differingFrom, syncOf}
 use Rattle.frame.specs.Identification.{classOf, isUndefined}
 use Rattle.frame.specs.Body.{row, layout}

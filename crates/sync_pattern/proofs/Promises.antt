@@ -1,8 +1,8 @@
 -- The promises of the pattern test hold. Assumes nothing.
-use mathlib.Core.Path.{_≡_, refl, sym, ap, _∙_, subst}
+use mathlib.Core.Path.{_≡_, sym, ap, _∙_}
 use mathlib.Core.Bool.{Bool}
 use mathlib.Core.List.{List}
-use Prim.Native.Nat.{ℕ, zero, suc, _+_, _≤_, _<_}
+use Prim.Native.Nat.{ℕ, zero, suc, _-_, _≤_, _<_}
 use native.Mathlib.Omega.{arith}
 use lib.ListN.{length}
 use Rattle.gf2.specs.Polynomial.{add}
@@ -82,6 +82,15 @@ module _ (p : ℕ) (e : List Bool) (h : p < 2) (l : length e ≡ 16) where
       (λ d. record { from-0 = omega (arith, sixteen hit length-hit); from-1 = omega arith })
       (differing-hit p e l))
 
+  mistaken : 13 ≤ weight e → syncOf (add e (patternBits p)) ≡ Fits (1 - p) (16 - weight e)
+  unfolding hit
+  mistaken k =
+      let sum = sixteen hit length-hit in
+      two p (λ (q : ℕ). differingFrom q hit ≡ weight e → syncOf hit ≡ Fits (1 - q) (16 - weight e)) h
+      (λ d. fits hit 1 (16 - weight e) length-hit (record { pattern = omega arith; differing = omega arith; few = omega arith }))
+      (λ d. fits hit 0 (16 - weight e) length-hit (record { pattern = omega arith; differing = omega arith; few = omega arith }))
+      (differing-hit p e l)
+
 pub pattern-test : PatternTest
 pattern-test =
     record {
@@ -94,4 +103,5 @@ pattern-test =
       neither-only = neither-only;
       sent = sent;
       lost = lost;
+      mistaken = mistaken;
     }

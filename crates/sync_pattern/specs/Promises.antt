@@ -2,7 +2,7 @@
 use mathlib.Core.Path.{_≡_}
 use mathlib.Core.Bool.{Bool, not}
 use mathlib.Core.List.{List, map}
-use Prim.Native.Nat.{ℕ, _+_, _≤_, _<_}
+use Prim.Native.Nat.{ℕ, _+_, _-_, _≤_, _<_}
 use lib.ListN.{length}
 use Rattle.gf2.specs.Polynomial.{add}
 use Rattle.dsc.specs.Code.{weight}
@@ -35,5 +35,6 @@ pub record PatternTest : Type 0 where
   pub neither-only : (s : List Bool) → syncOf s ≡ Neither → Far s
   -- whichever pattern was sent, and whichever three bits or fewer of it were hit: that pattern, and the number of bits hit
   pub sent : (p : ℕ) (e : List Bool) → p < 2 → length e ≡ 16 → weight e ≤ 3 → syncOf (add e (patternBits p)) ≡ Fits p (weight e)
-  -- hit in four to twelve bits it is neither
+  -- hit in four to twelve bits it is neither, and from thirteen on it is taken for the other one
   pub lost : (p : ℕ) (e : List Bool) → p < 2 → length e ≡ 16 → 4 ≤ weight e → weight e ≤ 12 → syncOf (add e (patternBits p)) ≡ Neither
+  pub mistaken : (p : ℕ) (e : List Bool) → p < 2 → length e ≡ 16 → 13 ≤ weight e → syncOf (add e (patternBits p)) ≡ Fits (1 - p) (16 - weight e)
