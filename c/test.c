@@ -136,6 +136,8 @@ static void test_frame_read(void)
     expect_frame_read("one hit", ONE_HIT, 26, 18, 1 << 8, zeros);
     expect_frame_read("three synchronising bits and eight hits", THREE_SYNC_BITS, 26, 18, (3 << 16) + (8 << 8), zeros);
     expect_frame_read("13 bits from pattern 0", "650b000000000000000000000000000000000000000000000000", 26, 18, 3 << 16, pattern_1);
+    expect_frame_read("one synchronising bit and nine hits: the number alone", "5af7000000000000000000000000004308c01110000000000000", 26, 18,
+        GVZ_REFUSAL_BEYOND_REPAIR, NULL);
     expect_frame_read("four bits from pattern 0", "62f7000000000000000000000000000000000000000000000000", 26, 18, GVZ_REFUSAL_NO_PATTERN, NULL);
     expect_frame_read("four bits from pattern 1", "650f000000000000000000000000000000000000000000000000", 26, 18, GVZ_REFUSAL_NO_PATTERN, NULL);
     expect_frame_read("a cancellation", CANCELLATION, 26, 18, 0, cancellation);
@@ -341,9 +343,9 @@ static void expect_capture(const char *what, const uint8_t *main_capture, size_t
 
 static void test_captures(void)
 {
-    /* main: one hit, nine hits, no pattern; spare: a wrong CRC, a place, a wrong CRC */
+    /* main: three synchronising bits and eight hits, nine hits, no pattern; spare: a wrong CRC, a place, a wrong CRC */
     uint8_t main_capture[3 * GVZ_FRAME_BYTES] = {0}, spare_capture[3 * GVZ_FRAME_BYTES];
-    memcpy(main_capture, frame_of(ONE_HIT), GVZ_FRAME_BYTES);
+    memcpy(main_capture, frame_of(THREE_SYNC_BITS), GVZ_FRAME_BYTES);
     memcpy(main_capture + 26, frame_of(NINE_HITS), GVZ_FRAME_BYTES);
     memcpy(spare_capture, frame_of(CLEAN_WRONG_CRC), GVZ_FRAME_BYTES);
     memcpy(spare_capture + 26, frame_of(PLACE), GVZ_FRAME_BYTES);

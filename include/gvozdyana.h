@@ -85,7 +85,7 @@ enum gvz_refusal {
 
 /* How many bits of B1 to B16 differed from the pattern, 0 to 3, of a status of gvz_frame_read; they are not among the
  * repaired places. */
-#define GVZ_SYNC_BITS(status) ((status) >> 16)
+#define GVZ_SYNC_BITS(status) ((status) >> 16 & 255u)
 
 /* Whether the area is warned, 1 or 0, of a status of gvz_warned whose GVZ_REFUSAL is 0. At a refusal it is 0 too, which
  * says nothing of the area. */
@@ -247,7 +247,8 @@ enum gvz_tuner {
 
 /* Which capture frame n, counted from 0, is taken from: main if it is accepted there, otherwise spare if it is
  * accepted there. Returns an enum gvz_tuner and no status. The frame's bytes are the 26 from byte 26 n on of that
- * capture, as received, damage included. Captures have any length, and a frame number past a capture is not accepted there. */
+ * capture, as received, damage included. Captures have any length, and a frame number past a capture is not accepted
+ * there. */
 uint32_t gvz_capture_source(const uint8_t *main_capture, size_t main_len, const uint8_t *spare_capture, size_t spare_len,
     uint64_t n);
 
@@ -293,8 +294,8 @@ uint32_t gvz_header_read(const uint8_t *header, size_t header_len, uint64_t *rec
  * 15; tells nothing. */
 uint32_t gvz_header_write(const uint64_t *record, size_t record_len, uint8_t *header, size_t header_len);
 
-/* Lays a frame, repaired and with the clean pattern, into a header, in place. Returns a status: refuses the header as gvz_header_read does, then
- * the frame as gvz_frame_read does; tells nothing. */
+/* Lays a frame, repaired and with the clean pattern, into a header, in place. Returns a status: refuses the header as
+ * gvz_header_read does, then the frame as gvz_frame_read does; tells nothing. */
 uint32_t gvz_lay_in(uint8_t *header, size_t header_len, const uint8_t *frame, size_t frame_len);
 
 /* Writes 204 ones instead of a header's frame, in place. Returns a status: refuses as gvz_header_read does; tells

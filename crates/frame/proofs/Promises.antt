@@ -7,7 +7,7 @@ use Prim.Native.Nat.{ℕ, _+_, _≤_, _<_}
 use native.Mathlib.Omega.{arith}
 use lib.Dec.{eqb}
 use lib.ListN.{length, take, drop, getD, length-append, length-drop}
-use borrow.Author.Tests.{eq-eqb, ne-eqb, eqb-true, eqb-false}
+use borrow.Author.Tests.{eq-eqb, ne-eqb, eqb-true, eqb-false, not-true}
 use Rattle.bits.specs.Bits.{odd, bitsOf, bits, bytes, Bytes}
 use Rattle.bits.specs.Field.{fieldAt}
 use Rattle.bits.proofs.Bits.{value-take-lt, length-bytes, bits-bytes, bits-inj, bytes-Bytes}
@@ -21,8 +21,9 @@ use Rattle.dsc.proofs.Promises.{demand3}
 use Rattle.dsc.proofs.Word.{length-word}
 use Rattle.dsc.proofs.Distance.{dist-none, dist-same}
 use Rattle.dsc.proofs.Answers.{length-protected, protected-wordBytes, repair-found}
-use Rattle.sync_pattern.specs.Pattern.{patternBits, differingFrom, isNeither, fittingPattern}
-use Rattle.sync_pattern.specs.Promises.{Far, Fitting}
+use Rattle.sync_pattern.specs.Pattern.{patternBits, differingFrom, syncNumber, fittingPattern}
+use Rattle.sync_pattern.specs.Promises.{FarFromBoth, Fitting}
+use Rattle.sync_pattern.specs.declared.Sync.{Sync}
 use Rattle.sync_pattern.proofs.Patterns.{differing-dist, fitting-none}
 use Rattle.sync_pattern.proofs.Promises.{pattern-test}
 use Rattle.frame.specs.Body.{row}
@@ -171,9 +172,9 @@ module _ (f : List ℕ) (j : Judged f) where
               filler = sym (filler-whole (frameOf r) (length-frame r)) ∙ p .filler ∙ sym filler ∙ filler-whole f (j .size);
             };
         pattern = p .pattern;
-        differing = record { places = y .differing ∙ sync; few = y .few };
+        differing = record { count = y .differing ∙ sync; few = y .few };
         word = subst CodeWord (sym (p .word)) (record-word r);
-        repaired = record { places = judged-dist f j .0 ∙ ap (dist (protected f)) (sym (p .word ∙ recorded-word)); few = judged-dist f j .1 };
+        repaired = record { count = judged-dist f j .0 ∙ ap (dist (protected f)) (sym (p .word ∙ recorded-word)); few = judged-dist f j .1 };
       }
 
 -- what is known of an accepted frame
@@ -241,9 +242,9 @@ undamaged f r h e =
     let lb : length (bits f) ≡ 208 = frame-bits f lf in
     let lc : length (bits g) ≡ 208 = frame-bits g (m .size) in
     let s : syncBits g ≡ syncBits f =
-    sym (dist-none (syncBits f) (syncBits g) (length-part 1 16 (bits f) (omega arith) ∙ sym (length-part 1 16 (bits g) (omega arith))) (sym (m .differing .places))) in
+    sym (dist-none (syncBits f) (syncBits g) (length-part 1 16 (bits f) (omega arith) ∙ sym (length-part 1 16 (bits g) (omega arith))) (sym (m .differing .count))) in
     let w : protected g ≡ protected f =
-    sym (dist-none (protected f) (protected g) (length-protected f lf ∙ sym (length-protected g (m .size))) (sym (m .repaired .places))) in
+    sym (dist-none (protected f) (protected g) (length-protected f lf ∙ sym (length-protected g (m .size))) (sym (m .repaired .count))) in
     let b : bits g ≡ bits f =
     frame-split g (m .size)
     ∙ ap₂ (λ (x y : List Bool). x ++ (y ++ (protected g ++ take 4 (drop 204 (bits g))))) (m .outside .reference) s
@@ -253,19 +254,21 @@ undamaged f r h e =
 
 -- ---- refusal 3
 
-no-pattern : (f : List ℕ) → length f ≡ 26 → fieldAt f 204 4 ≡ 0 → Far (syncBits f) → frameRefusal f ≡ 3
+no-pattern : (f : List ℕ) → length f ≡ 26 → fieldAt f 204 4 ≡ 0 → FarFromBoth (syncBits f) → frameRefusal f ≡ 3
 unfolding frameRefusal
 no-pattern f h z far =
     refusal-later 1 _ (ap not (eq-eqb (length f) 26 h))
     ∙ refusal-later 2 _ (ap not (eq-eqb (fieldAt f 204 4) 0 z))
-    ∙ refusal-here 3 _ (ap isNeither (pattern-test .neither (syncBits f) far))
+    ∙ refusal-here 3 _ (ap (λ (y : Sync). not (eqb (syncNumber y) 0)) (pattern-test .neither (syncBits f) far))
 
-no-pattern-only : (f : List ℕ) → frameRefusal f ≡ 3 → Far (syncBits f)
+no-pattern-only : (f : List ℕ) → frameRefusal f ≡ 3 → FarFromBoth (syncBits f)
 unfolding frameRefusal
 no-pattern-only f e =
     let first : List (ℕ × Bool) = (1, not (eqb (length f) 26)) ∷ (2, not (eqb (fieldAt f 204 4) 0)) ∷ [] in
     let later : List (ℕ × Bool) = (4, not (eqb (numberOf (repairOf f)) 0)) ∷ afterRepair (repairOf f .word) in
-    pattern-test .neither-only (syncBits f) (fitting-none (syncIn f) (refusal-met first later 3 (isNeither (syncIn f)) (omega arith) refl refl e))
+    let n = syncNumber (syncIn f) in
+    let given : not (eqb n 0) ≡ true = refusal-met first later 3 (not (eqb n 0)) (omega arith) refl refl e in
+    pattern-test .neither-only (syncBits f) (fitting-none (syncIn f) (eqb-false n 0 (not-true (eqb n 0) given)))
 
 -- ---- judged and read
 

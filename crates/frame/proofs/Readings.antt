@@ -24,7 +24,7 @@ use Rattle.dsc.specs.declared.Answer.{Answer}
 use Rattle.dsc.proofs.Word.{length-word, parity-only}
 use Rattle.dsc.proofs.Decoding.{Nearest, one, none, nearest}
 use Rattle.dsc.proofs.Answers.{length-protected, length-wordBytes, protected-wordBytes, repair-found, repair-none}
-use Rattle.sync_pattern.specs.Pattern.{isNeither, fittingPattern, fittingDiffering}
+use Rattle.sync_pattern.specs.Pattern.{syncNumber, fittingPattern, fittingDiffering}
 use Rattle.sync_pattern.specs.declared.Sync.the-variants.{Fits}
 use Rattle.sync_pattern.proofs.Patterns.{fitting}
 use Rattle.frame.specs.Identification.{classOf, startEndOf, updateOf, isUndefined}
@@ -67,7 +67,7 @@ accepted-judged f e =
     let number = eqb-true (numberOf (repairOf f)) 0 (not-false (eqb (numberOf (repairOf f)) 0) (h .1 .1 .1 .0)) in
     go size number (h .1 .0) (h .1 .1 .0) (h .1 .1 .1 .1) (nearest (protected f) (length-protected f size))
   where
-    go : length f ≡ 26 → numberOf (repairOf f) ≡ 0 → not (eqb (fieldAt f 204 4) 0) ≡ false → isNeither (syncIn f) ≡ false
+    go : length f ≡ 26 → numberOf (repairOf f) ≡ 0 → not (eqb (fieldAt f 204 4) 0) ≡ false → not (eqb (syncNumber (syncIn f)) 0) ≡ false
         → NoneGiven (afterRepair (repairOf f .word)) → Nearest (protected f) → Judged f
     go size number filler pattern tests (one c k d) =
         let e = repair-found f size c k d in
@@ -78,7 +78,7 @@ accepted-judged f e =
           differing = fittingDiffering (syncIn f);
           size = size;
           filler = eqb-true (fieldAt f 204 4) 0 (not-false (eqb (fieldAt f 204 4) 0) filler);
-          sync = fitting (syncIn f) pattern;
+          sync = fitting (syncIn f) (eqb-true (syncNumber (syncIn f)) 0 (not-false (eqb (syncNumber (syncIn f)) 0) pattern));
           code-word = k;
           repaired = e;
           tests = subst (λ (a : Answer). NoneGiven (afterRepair (a .word))) e tests;
@@ -90,19 +90,19 @@ same-answer : (c w : List Bool) (m n : ℕ) → repairedTo c m ≡ repairedTo w 
 same-answer c w m n e = let o = ap (λ (a : Answer). a .outcome) e in (cc, ap (λ (a : Answer). a .word) e)
 
 -- a frame whose word is repaired is judged by the repaired word
-pub repaired-refusal : (f : List ℕ) (w : List Bool) (n : ℕ) → length f ≡ 26 → fieldAt f 204 4 ≡ 0 → isNeither (syncIn f) ≡ false → repairOf f ≡ repairedTo w n
+pub repaired-refusal : (f : List ℕ) (w : List Bool) (n : ℕ) → length f ≡ 26 → fieldAt f 204 4 ≡ 0 → syncNumber (syncIn f) ≡ 0 → repairOf f ≡ repairedTo w n
     → frameRefusal f ≡ firstRefusal (afterRepair (wordBytes w))
 unfolding frameRefusal
 repaired-refusal f w n size filler pattern e =
     refusal-later 1 _ (ap not (eq-eqb (length f) 26 size))
     ∙ refusal-later 2 _ (ap not (eq-eqb (fieldAt f 204 4) 0 filler))
-    ∙ refusal-later 3 _ pattern
+    ∙ refusal-later 3 _ (ap not (eq-eqb (syncNumber (syncIn f)) 0 pattern))
     ∙ refusal-later 4 _ (ap (λ (a : Answer). not (eqb (numberOf a) 0)) e)
     ∙ ap (λ (a : Answer). firstRefusal (afterRepair (a .word))) e
 
 module _ (f : List ℕ) (j : Judged f) where
   pub judged-accepted : frameRefusal f ≡ 0
-  judged-accepted = repaired-refusal f (j .word) (j .places) (j .size) (j .filler) (ap isNeither (j .sync)) (j .repaired) ∙ none-refusal (afterRepair (wordBytes (j .word))) (j .tests)
+  judged-accepted = repaired-refusal f (j .word) (j .places) (j .size) (j .filler) (ap syncNumber (j .sync)) (j .repaired) ∙ none-refusal (afterRepair (wordBytes (j .word))) (j .tests)
 
   pub judged-places : placesIn f ≡ j .places
   unfolding placesIn

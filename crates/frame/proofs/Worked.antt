@@ -17,7 +17,7 @@ use Rattle.bits.proofs.Layouts.{fitb-fit}
 use Rattle.bits.proofs.Refusal.{refusal-here, refusal-later, refusal-append-given}
 use Rattle.gf2.specs.Polynomial.{add}
 use Rattle.dsc.specs.Repair.{numberOf, repairOf}
-use Rattle.sync_pattern.specs.Pattern.{isNeither, differingFrom, syncOf}
+use Rattle.sync_pattern.specs.Pattern.{syncNumber, differingFrom, syncOf}
 use Rattle.frame.specs.Identification.{classOf, isUndefined}
 use Rattle.frame.specs.Body.{row, layout}
 use Rattle.frame.specs.Fields.{fields, scatter, fieldWidths, recordBody, overLimit}
@@ -64,7 +64,7 @@ not-read r a =
     let g = fit 901 r a in
     let o = own-outside r g in
     let e : frameRefusal f ≡ 9 =
-    repaired-refusal f (wordOf r) 0 (length-frame r) (o .filler) (ap isNeither (o .sync)) (repair-own r)
+    repaired-refusal f (wordOf r) 0 (length-frame r) (o .filler) (ap syncNumber (o .sync)) (repair-own r)
     ∙ found-refusal r g (known 901 r a) ∙ refusal-here 9 [] (limits 901 r a) in
     refused-read f (λ z. omega arith) ∙ ap Refused e
 

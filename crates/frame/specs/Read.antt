@@ -11,7 +11,7 @@ use Rattle.bits.specs.Segment.{unpackSegments, fixedBitsHold}
 use Rattle.bits.specs.Refusal.{firstRefusal}
 use Rattle.crc.specs.Crc.{crc10Of}
 use Rattle.dsc.specs.Repair.{protected, numberOf, placesOf, repairOf}
-use Rattle.sync_pattern.specs.Pattern.{patternBits, syncOf, isNeither, fittingPattern, fittingDiffering}
+use Rattle.sync_pattern.specs.Pattern.{patternBits, syncOf, syncNumber, fittingPattern, fittingDiffering}
 use Rattle.sync_pattern.specs.declared.Sync.{Sync}
 use Rattle.frame.specs.Identification.{classOf, flagsWrong, isUndefined}
 use Rattle.frame.specs.Body.{bodyOf, layout}
@@ -65,7 +65,7 @@ abbrev pub beforeRepair : List ℕ → List (ℕ × Bool)
 beforeRepair f =
     (1, not (eqb (length f) 26))
     ∷ (2, not (eqb (fieldAt f 204 4) 0))
-    ∷ (3, isNeither (syncIn f))
+    ∷ (3, not (eqb (syncNumber (syncIn f)) 0))
     ∷ []
 
 -- after it: the CRC, the identification, start/end and update, the bits fixed at 1, the house limits
@@ -93,7 +93,7 @@ placesIn f = cond (eqb (frameRefusal f) 0) (placesOf (repairOf f)) 0
 abbrev pub noDamage : Damage
 noDamage = record { repaired = 0; differing = 0 }
 
--- what was damaged in an accepted frame: the repaired places, and beside them the bits that differed from the pattern
+-- what was damaged in an accepted frame: the repaired places, and beside them the bits that differed from the pattern; nobody asks it of a refused one
 abbrev pub damageIn : List ℕ → Damage
 damageIn f = record { repaired = placesIn f; differing = fittingDiffering (syncIn f) }
 
@@ -108,7 +108,7 @@ readOf f =
     (Accepted (recordIn (fieldAt f 0 1) (fittingPattern (syncIn f)) (repairOf f .word)) (damageIn f))
     (Refused (frameRefusal f))
 
--- document 01's number and values of a reading: 0 with the repaired places, the differing bits and the record, or the refusal's number and nothing else
+-- the documents' number and values of a reading: 0 with the repaired places, the differing bits and the record, or the refusal's number and nothing else
 abbrev pub readingNumber : Reading → ℕ
 readingNumber (Accepted r d) = 0
 readingNumber (Refused n) = n

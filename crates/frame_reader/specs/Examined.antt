@@ -20,7 +20,7 @@ examinedRefused n = record { reading = Refused n; word = replicate 26 0 }
 abbrev pub examinedAccepted : Record → Damage → List ℕ → Examined
 examinedAccepted r d c = record { reading = Accepted r d; word = c }
 
--- the repaired frame c examined, when d was damaged in it
+-- the repaired frame c examined; d is what was damaged in the received one
 unfoldable pub wordExamined : (reference pattern : ℕ) → Damage → List ℕ → Examined
 wordExamined x p d c = cond (eqb (firstRefusal (afterRepair c)) 0) (examinedAccepted (recordIn x p c) d c) (examinedRefused (firstRefusal (afterRepair c)))
 

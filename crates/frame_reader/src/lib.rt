@@ -7,7 +7,7 @@ use frame::Cleaned;
 use frame::Damage;
 use frame::Reading;
 use frame::Verdict;
-use frame_refusals::Front;
+use frame_refusals::Preamble;
 
 // A frame examined: what is read, with the repaired word beside it, which is 0 on a refusal.
 pub struct Examined {
@@ -45,8 +45,8 @@ fn examine_word(reference: u64, pattern: u64, damage: Damage, word: [u8; 26]) ->
 fn examine(frame: &[u8]) -> Examined
     ensures { λ r. ⌜ r ≡ examinedOf (now (frame .entry)) ⌝ }
 {
-    match frame_refusals::front_of(frame) {
-        Front::Passed(reference, pattern, differing) => {
+    match frame_refusals::preamble_of(frame) {
+        Preamble::Passed(reference, pattern, differing) => {
             let answer = dsc_codec::repair(frame);
             let outcome = answer.outcome;
             match outcome {
@@ -62,7 +62,7 @@ fn examine(frame: &[u8]) -> Examined
                 Outcome::Refused(_) => refused(4),
             }
         }
-        Front::Refused(number) => refused(number),
+        Preamble::Refused(number) => refused(number),
     }
 }
 

@@ -15,20 +15,20 @@ use Rattle.bits.specs.Refusal.{firstRefusal}
 use Rattle.bits.proofs.Bits.{bits-drop}
 use Rattle.bits.proofs.Refusal.{Tested, end, met, unmet, tested}
 use Rattle.crc.specs.Crc.{crc10Of}
-use Rattle.sync_pattern.specs.Pattern.{syncOf, isNeither, fittingPattern, fittingDiffering}
+use Rattle.sync_pattern.specs.Pattern.{syncOf, syncNumber, fittingPattern, fittingDiffering}
 use Rattle.sync_pattern.specs.declared.Sync.{Sync}
 use Rattle.sync_pattern.specs.declared.Sync.the-variants.{Fits, Neither}
 use Rattle.frame.specs.Identification.{classOf, flagsWrong, isUndefined}
 use Rattle.frame.specs.Body.{bodyOf, layout}
 use Rattle.frame.specs.Fields.{overLimit}
 use Rattle.frame.specs.Read.{classIn, bodyIn, detailsIn, recordIn, syncIn, beforeRepair, afterRepair}
-use Rattle.frame_refusals.specs.Front.{frontOf}
+use Rattle.frame_refusals.specs.Preamble.{preambleOf}
 use Rattle.frame_refusals.specs.Word.{wordDetails, Tells}
 use Rattle.frame_details.specs.Details.{detailsOf}
 use Rattle.frame.specs.declared.Class.{Class}
 use Rattle.frame.specs.declared.Body.{Body}
 use Rattle.frame_details.specs.declared.Details.{Details}
-use Rattle.frame_refusals.specs.declared.Front.the-variants.{Passed, Refused}
+use Rattle.frame_refusals.specs.declared.Preamble.the-variants.{Passed, Refused}
 use Rattle.frame.proofs.Parts.{part-bits, frame-bits}
 use Rattle.frame.proofs.Bodies.{taken}
 
@@ -40,19 +40,19 @@ got s k w n h t e =
 -- ---- before the repair
 
 module _ (f : List ℕ) where
-  refused-with : (n : ℕ) → 0 < n → n ≡ firstRefusal (beforeRepair f) → Refused n ≡ frontOf f
-  unfolding frontOf
+  refused-with : (n : ℕ) → 0 < n → n ≡ firstRefusal (beforeRepair f) → Refused n ≡ preambleOf f
+  unfolding preambleOf
   refused-with n p e = rw (sym e, ne-eqb n 0 (λ z. omega arith))
 
-  pub front-short : (length f ≡ 26 → ⊥) → Refused 1 ≡ frontOf f
-  front-short n = refused-with 1 (omega arith) (tested (met (ap not (ne-eqb (length f) 26 n))))
+  pub preamble-short : (length f ≡ 26 → ⊥) → Refused 1 ≡ preambleOf f
+  preamble-short n = refused-with 1 (omega arith) (tested (met (ap not (ne-eqb (length f) 26 n))))
 
   module _ (h : length f ≡ 26) (filler : ℕ) (ef : filler ≡ getOf f 204 4) where
     field-filler : filler ≡ fieldAt f 204 4
     field-filler = got f 204 4 filler h refl ef
 
-    pub front-filler : (filler ≡ 0 → ⊥) → Refused 2 ≡ frontOf f
-    front-filler n =
+    pub preamble-filler : (filler ≡ 0 → ⊥) → Refused 2 ≡ preambleOf f
+    preamble-filler n =
         refused-with 2 (omega arith)
         (tested
         (unmet (ap not (eq-eqb (length f) 26 h))
@@ -67,21 +67,24 @@ module _ (f : List ℕ) where
       past-filler t =
           tested (unmet (ap not (eq-eqb (length f) 26 h)) (unmet (ap not (eq-eqb (fieldAt f 204 4) 0 (sym field-filler ∙ z))) t))
 
-      pub front-neither : y ≡ Neither → Refused 3 ≡ frontOf f
-      front-neither e = refused-with 3 (omega arith) (past-filler (met (ap isNeither (sym read-sync ∙ e))))
+      by-answer : {z : Sync} → syncIn f ≡ z → not (eqb (syncNumber (syncIn f)) 0) ≡ not (eqb (syncNumber z) 0)
+      by-answer e = ap (λ (s : Sync). not (eqb (syncNumber s) 0)) e
 
-      pub front-fits : (x p d : ℕ) → x ≡ getOf f 0 1 → y ≡ Fits p d → Passed x p d ≡ frontOf f
-      unfolding frontOf
-      front-fits x p d ex e =
+      pub preamble-neither : y ≡ Neither → Refused 3 ≡ preambleOf f
+      preamble-neither e = refused-with 3 (omega arith) (past-filler (met (by-answer (sym read-sync ∙ e))))
+
+      pub preamble-fits : (x p d : ℕ) → x ≡ getOf f 0 1 → y ≡ Fits p d → Passed x p d ≡ preambleOf f
+      unfolding preambleOf
+      preamble-fits x p d ex e =
           let s : syncIn f ≡ Fits p d = sym read-sync ∙ e in
-          rw (sym (past-filler (unmet (ap isNeither s) end)), s, got f 0 1 x h refl ex)
+          rw (sym (past-filler (unmet (by-answer s) end)), s, got f 0 1 x h refl ex)
 
 -- ---- what they said
 
 -- a number, which is not 0
-pub front-number : (f : List ℕ) (n : ℕ) → frontOf f ≡ Refused n → (n ≡ firstRefusal (beforeRepair f)) × (n ≡ 0 → ⊥)
-unfolding frontOf
-front-number f n = go (eqb (firstRefusal (beforeRepair f)) 0) refl
+pub preamble-number : (f : List ℕ) (n : ℕ) → preambleOf f ≡ Refused n → (n ≡ firstRefusal (beforeRepair f)) × (n ≡ 0 → ⊥)
+unfolding preambleOf
+preamble-number f n = go (eqb (firstRefusal (beforeRepair f)) 0) refl
   where
     m : ℕ
     m = firstRefusal (beforeRepair f)
@@ -98,9 +101,9 @@ pub record PassedIn (f : List ℕ) (x p d : ℕ) : Type 0 where
   pub pattern : p ≡ fittingPattern (syncIn f)
   pub differing : d ≡ fittingDiffering (syncIn f)
 
-pub front-passed : (f : List ℕ) (x p d : ℕ) → frontOf f ≡ Passed x p d → PassedIn f x p d
-unfolding frontOf
-front-passed f x p d = go (eqb (firstRefusal (beforeRepair f)) 0) refl
+pub preamble-passed : (f : List ℕ) (x p d : ℕ) → preambleOf f ≡ Passed x p d → PassedIn f x p d
+unfolding preambleOf
+preamble-passed f x p d = go (eqb (firstRefusal (beforeRepair f)) 0) refl
   where
     m : ℕ
     m = firstRefusal (beforeRepair f)

@@ -8,14 +8,14 @@ ghost use Rattle.bits.specs.Field.{fieldAt};
 ghost use Rattle.bits.specs.Refusal.{firstRefusal};
 ghost use Rattle.crc.specs.Crc.{crc10Of};
 ghost use Rattle.frame.specs.Read.{bodyIn, afterRepair};
-ghost use Rattle.frame_refusals.specs.Front.{frontOf};
+ghost use Rattle.frame_refusals.specs.Preamble.{preambleOf};
 ghost use Rattle.frame_refusals.specs.Word.{wordDetails, Tells};
 use frame::Body;
 use frame_details::Details;
 use sync_pattern::Sync;
 
-// What the tests before the repair say, and what they find before the word.
-pub enum Front {
+// What the tests before the repair say, and what they find before the word, in B0 to B16.
+pub enum Preamble {
     // the reference, the pattern, and how many bits of B1 to B16 differ from it
     Passed(u64, u64, u8),
     // 1, 2 or 3
@@ -23,20 +23,20 @@ pub enum Front {
 }
 
 // The tests before the repair.
-pub fn front_of(frame: &[u8]) -> Front
-    ensures { λ r. ⌜ r ≡ frontOf (now (frame .entry)) ⌝ }
+pub fn preamble_of(frame: &[u8]) -> Preamble
+    ensures { λ r. ⌜ r ≡ preambleOf (now (frame .entry)) ⌝ }
 {
     if frame.len() != 26 {
-        return Front::Refused(1);
+        return Preamble::Refused(1);
     }
     let filler = bit_fields::get(frame, 204, 4);
     if filler != 0 {
-        return Front::Refused(2);
+        return Preamble::Refused(2);
     }
     let reference = bit_fields::get(frame, 0, 1);
     match sync_pattern::sync_of(bit_fields::get(frame, 1, 16)) {
-        Sync::Fits(pattern, differing) => Front::Passed(reference, pattern, differing),
-        Sync::Neither => Front::Refused(3),
+        Sync::Fits(pattern, differing) => Preamble::Passed(reference, pattern, differing),
+        Sync::Neither => Preamble::Refused(3),
     }
 }
 

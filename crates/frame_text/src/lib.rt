@@ -34,7 +34,7 @@ fn bytes(s: &[u8]) {
     }
 }
 
-// A space and a number.
+// A space and a field.
 fn field(n: u64) {
     text(b" ");
     number(n);
@@ -60,7 +60,8 @@ fn reading(frame: &[u8]) {
         Reading::Accepted(r, d) => {
             text(b" accepted ");
             number(d.repaired as u64);
-            field(d.differing as u64);
+            text(b" ");
+            number(d.differing as u64);
             record(r);
         }
         Reading::Refused(n) => refused(n),

@@ -1,6 +1,7 @@
 -- The two patterns, and how far 16 bits are from them. Assumes nothing.
 use mathlib.Core.Path.{_≡_, refl, sym, ap, ap₂, _∙_, subst}
-use mathlib.Core.Bool.{Bool, true, false, true≢false, not, cond}
+use mathlib.Core.Bool.{Bool, true, false, not, cond}
+use mathlib.Core.Logic.{_≢_}
 use mathlib.Core.List.{List, [], _∷_, map}
 use Prim.Native.Nat.{ℕ, _+_, _%_, _≤_, _<_}
 use native.Mathlib.Nat.{suc-inj}
@@ -17,7 +18,7 @@ use Rattle.lanes.proofs.Number.{add-bitsOf}
 use Rattle.dsc.specs.Code.{weight, dist}
 use Rattle.dsc.proofs.Weight.{weight-bitsOf}
 use Rattle.dsc.proofs.Distance.{dist-hit}
-use Rattle.sync_pattern.specs.Pattern.{patternWord, patternBits, differingFrom, syncLimit, syncOf, isNeither, fittingPattern, fittingDiffering}
+use Rattle.sync_pattern.specs.Pattern.{patternWord, patternBits, differingFrom, syncLimit, syncOf, syncNumber, fittingPattern, fittingDiffering}
 use Rattle.sync_pattern.specs.declared.Sync.{Sync}
 use Rattle.sync_pattern.specs.declared.Sync.the-variants.{Fits, Neither}
 
@@ -103,11 +104,11 @@ module _ (s : List Bool) where
       go false false ea eb =
           subst Answered (by-tests false false ea eb) (is-neither (leb-false (differingFrom 0 s) syncLimit ea) (leb-false (differingFrom 1 s) syncLimit eb))
 
--- bits that are not neither fit
-pub fitting : (y : Sync) → isNeither y ≡ false → y ≡ Fits (fittingPattern y) (fittingDiffering y)
+-- an answer by its number
+pub fitting : (y : Sync) → syncNumber y ≡ 0 → y ≡ Fits (fittingPattern y) (fittingDiffering y)
 fitting (Fits p d) e = refl
-fitting Neither e = absurd (true≢false e)
+fitting Neither e = absurd (omega arith)
 
-pub fitting-none : (y : Sync) → isNeither y ≡ true → y ≡ Neither
-fitting-none (Fits p d) e = absurd (true≢false (sym e))
-fitting-none Neither e = refl
+pub fitting-none : (y : Sync) → syncNumber y ≢ 0 → y ≡ Neither
+fitting-none (Fits p d) n = absurd (n refl)
+fitting-none Neither n = refl

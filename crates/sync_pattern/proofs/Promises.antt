@@ -9,7 +9,7 @@ use Rattle.gf2.specs.Polynomial.{add}
 use Rattle.gf2.proofs.Sum.{length-add}
 use Rattle.dsc.specs.Code.{weight}
 use Rattle.sync_pattern.specs.Pattern.{patternBits, differingFrom, syncOf}
-use Rattle.sync_pattern.specs.Promises.{Far, Fitting, PatternTest}
+use Rattle.sync_pattern.specs.Promises.{FarFromBoth, Fitting, PatternTest}
 use Rattle.sync_pattern.specs.declared.Sync.{Sync}
 use Rattle.sync_pattern.specs.declared.Sync.the-variants.{Fits, Neither}
 use Rattle.sync_pattern.proofs.Patterns.{length-pattern, complement, sixteen, differing-hit, fits-0, fits-1, fits-neither, Answered, is-0, is-1, is-neither, answered}
@@ -48,13 +48,13 @@ fits-only s p d e = go (syncOf s) (answered s) e
         record { pattern = omega arith; differing = sym ed ∙ ap (λ (k : ℕ). differingFrom k s) ep; few = omega arith }
     go _ (is-neither g h) q = let z : _≡_ {A = ℕ} 0 1 = cc in absurd (omega arith)
 
-neither : (s : List Bool) → Far s → syncOf s ≡ Neither
+neither : (s : List Bool) → FarFromBoth s → syncOf s ≡ Neither
 neither s f = sym (fits-neither s (f .from-0) (f .from-1))
 
-neither-only : (s : List Bool) → syncOf s ≡ Neither → Far s
+neither-only : (s : List Bool) → syncOf s ≡ Neither → FarFromBoth s
 neither-only s e = go (syncOf s) (answered s) e
   where
-    go : (a : Sync) → Answered s a → a ≡ Neither → Far s
+    go : (a : Sync) → Answered s a → a ≡ Neither → FarFromBoth s
     go _ (is-0 h) q = let z : _≡_ {A = ℕ} 0 1 = cc in absurd (omega arith)
     go _ (is-1 h) q = let z : _≡_ {A = ℕ} 0 1 = cc in absurd (omega arith)
     go _ (is-neither g h) q = record { from-0 = g; from-1 = h }
@@ -77,7 +77,7 @@ module _ (p : ℕ) (e : List Bool) (h : p < 2) (l : length e ≡ 16) where
   unfolding hit
   lost a b =
       neither hit
-      (two p (λ (q : ℕ). differingFrom q hit ≡ weight e → Far hit) h
+      (two p (λ (q : ℕ). differingFrom q hit ≡ weight e → FarFromBoth hit) h
       (λ d. record { from-0 = omega arith; from-1 = omega (arith, sixteen hit length-hit) })
       (λ d. record { from-0 = omega (arith, sixteen hit length-hit); from-1 = omega arith })
       (differing-hit p e l))

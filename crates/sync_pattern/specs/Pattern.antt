@@ -1,6 +1,6 @@
 -- The synchronising bits B1 to B16 (document 01, "The frame, bit by bit"; document 02, e). The notice gives no value: its note 3 only says that B4 to B16 are
 -- the low 13 bits of the synchronising signal. The value is document 01's, which has it from ARIB STD-B31. Assumes nothing.
-use mathlib.Core.Bool.{Bool, true, false, cond}
+use mathlib.Core.Bool.{Bool, cond}
 use mathlib.Core.List.{List}
 use Prim.Native.Nat.{ℕ, _-_}
 use lib.Dec.{eqb, leb}
@@ -34,11 +34,11 @@ syncOf s =
     cond (leb (differingFrom 0 s) syncLimit) (Fits 0 (differingFrom 0 s))
     (cond (leb (differingFrom 1 s) syncLimit) (Fits 1 (differingFrom 1 s)) Neither)
 
--- ---- what it says: the pattern's number and the number of differing bits, or refusal 3 and 0 for both
+-- ---- document 01's number and the values of an answer: 0 with the pattern and how many bits differ from it, or refusal 3
 
-abbrev pub isNeither : Sync → Bool
-isNeither (Fits p d) = false
-isNeither Neither = true
+abbrev pub syncNumber : Sync → ℕ
+syncNumber (Fits p d) = 0
+syncNumber Neither = 3
 
 abbrev pub fittingPattern : Sync → ℕ
 fittingPattern (Fits p d) = p

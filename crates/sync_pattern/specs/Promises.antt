@@ -9,8 +9,8 @@ use Rattle.dsc.specs.Code.{weight}
 use Rattle.sync_pattern.specs.Pattern.{patternBits, differingFrom, syncOf}
 use Rattle.sync_pattern.specs.declared.Sync.the-variants.{Fits, Neither}
 
--- four bits or more differ from both patterns
-pub record Far (s : List Bool) : Type 0 where
+-- four bits or more differ from each of the two patterns
+pub record FarFromBoth (s : List Bool) : Type 0 where
   pub from-0 : 4 ≤ differingFrom 0 s
   pub from-1 : 4 ≤ differingFrom 1 s
 
@@ -30,9 +30,9 @@ pub record PatternTest : Type 0 where
   -- the answer is a pattern exactly where at most three bits differ from it, with their number
   pub fits : (s : List Bool) (p d : ℕ) → length s ≡ 16 → Fitting s p d → syncOf s ≡ Fits p d
   pub fits-only : (s : List Bool) (p d : ℕ) → syncOf s ≡ Fits p d → Fitting s p d
-  -- and neither exactly where four or more differ from both
-  pub neither : (s : List Bool) → Far s → syncOf s ≡ Neither
-  pub neither-only : (s : List Bool) → syncOf s ≡ Neither → Far s
+  -- and neither exactly where four or more differ from each of the two
+  pub neither : (s : List Bool) → FarFromBoth s → syncOf s ≡ Neither
+  pub neither-only : (s : List Bool) → syncOf s ≡ Neither → FarFromBoth s
   -- whichever pattern was sent, and whichever three bits or fewer of it were hit: that pattern, and the number of bits hit
   pub sent : (p : ℕ) (e : List Bool) → p < 2 → length e ≡ 16 → weight e ≤ 3 → syncOf (add e (patternBits p)) ≡ Fits p (weight e)
   -- hit in four to twelve bits it is neither, and from thirteen on it is taken for the other one

@@ -40,7 +40,7 @@ macro_rules! record {
 
 record! {
     reference, "1 bit: B0, the differential reference, carried as it stands.";
-    pattern, "1 bit: 0 for the pattern 0011010111101110 in B1 to B16, 1 for its complement.";
+    pattern, "1 bit: 0 for the pattern 0011010111101110 in B1 to B16, 1 for its complement. Received bits may differ from it in up to three places.";
     identification, "3 bits: 0 to 3 are the numbers of an [`Identification`], 7 is no information. 4, 5 and 6 are undefined, and refused.";
     update, "2 bits, of identification 0 to 3 alone, as `time` and `page`; 0 for 7, although its frame holds ones there. It goes 0, 1, 2, 3 and back to 0, so that the greater one is not the newer one ([`State::follow`](crate::follower::State::follow)).";
     time, "31 bits: the current time, a plain number that is carried as it stands.";

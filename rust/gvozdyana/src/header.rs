@@ -143,8 +143,8 @@ pub fn write_into(header: &Header, bytes: &mut [u8]) -> Result<(), Refusal> {
     told(calls::header_write(&header.values(), bytes)).map(|_| ())
 }
 
-/// Lays a frame, repaired and with the clean pattern, into a header. Refuses the header as [`read`] does, then the frame as [`frame::read`](crate::frame::read) does;
-/// the header is then as it was.
+/// Lays a frame, repaired and with the clean pattern, into a header. Refuses the header as [`read`] does, then the frame as
+/// [`frame::read`](crate::frame::read) does; the header is then as it was.
 ///
 /// ```
 /// use gvozdyana::header::{lay_in, take_out, write, Header};

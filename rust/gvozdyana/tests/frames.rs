@@ -42,6 +42,13 @@ fn compared(sample: &Sample, record_len: usize, before: &[u64], case: Case) -> u
         Expected::Refused(first) => assert_eq!(number, first, "{}", what()),
         Expected::Open => {}
     }
+    // Written again, the frame is the repaired one with the clean pattern.
+    if let Ok((record, _)) = answer {
+        let mut again = [0; 26];
+        assert_eq!(calls::frame_write(&record, &mut again), 0, "{}", what());
+        let clean = plain::clean(&sample.bytes).expect("accepted");
+        assert_eq!(hex(&again), hex(&clean), "{}", what());
+    }
     let repaired = repair(&sample.bytes).map(|r| (r.word, r.places));
     let plain = reference::repair(&sample.bytes).map(|r| (r.word, r.places));
     assert_eq!(repaired.map_err(Refusal::number), plain, "{}", what());

@@ -232,7 +232,8 @@ fn read() -> Vec<Case> {
         cases.push(case(format!("{body}: what the writer wrote"), &frame));
         for n in 1..=16 {
             reference::flip_bit(&mut frame, n);
-            cases.push(case(format!("{body}: B1 to B{n} turned over"), &frame));
+            let what = format!("{body}: synchronising bits turned over, the first {n}");
+            cases.push(case(what, &frame));
         }
     }
     for n in [0, 17, 19] {

@@ -7,12 +7,12 @@ use Rattle.bits.specs.Field.{fieldAt}
 use Rattle.bits.specs.Refusal.{firstRefusal}
 use Rattle.sync_pattern.specs.Pattern.{fittingPattern, fittingDiffering}
 use Rattle.frame.specs.Read.{syncIn, beforeRepair}
-use Rattle.frame_refusals.specs.declared.Front.{Front}
-use Rattle.frame_refusals.specs.declared.Front.the-variants.{Passed, Refused}
+use Rattle.frame_refusals.specs.declared.Preamble.{Preamble}
+use Rattle.frame_refusals.specs.declared.Preamble.the-variants.{Passed, Refused}
 
 -- the first of their refusals, or where none is given the reference, the pattern and how many bits differ from it
-unfoldable pub frontOf : List ℕ → Front
-frontOf f =
+unfoldable pub preambleOf : List ℕ → Preamble
+preambleOf f =
     cond (eqb (firstRefusal (beforeRepair f)) 0)
     (Passed (fieldAt f 0 1) (fittingPattern (syncIn f)) (fittingDiffering (syncIn f)))
     (Refused (firstRefusal (beforeRepair f)))
