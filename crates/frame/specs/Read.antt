@@ -93,7 +93,7 @@ placesIn f = cond (eqb (frameRefusal f) 0) (placesOf (repairOf f)) 0
 abbrev pub noDamage : Damage
 noDamage = record { repaired = 0; differing = 0 }
 
--- what was damaged in an accepted frame: the repaired places, and beside them the bits that differed from the pattern; nobody asks it of a refused one
+-- what was damaged in an accepted frame: the repaired places, and beside them the bits that differed from the pattern; it is not asked of a refused one
 abbrev pub damageIn : List ℕ → Damage
 damageIn f = record { repaired = placesIn f; differing = fittingDiffering (syncIn f) }
 
