@@ -1,5 +1,5 @@
 -- The tests before and after the repair, from the fields that code reads. Assumes nothing.
-use mathlib.Core.Path.{_≡_, refl, sym, ap, ap₂, _∙_}
+use mathlib.Core.Path.{_≡_, refl, sym, ap, ap₂, _∙_, subst}
 use mathlib.Core.Bool.{Bool, true, false, cond, not}
 use mathlib.Core.List.{List}
 use Prim.Native.Nat.{ℕ, _-_, _<_}
@@ -28,6 +28,7 @@ use Rattle.frame_details.specs.Details.{detailsOf}
 use Rattle.frame.specs.declared.Class.{Class}
 use Rattle.frame.specs.declared.Body.{Body}
 use Rattle.frame_details.specs.declared.Details.{Details}
+use Rattle.frame_refusals.specs.declared.Preamble.{Preamble}
 use Rattle.frame_refusals.specs.declared.Preamble.the-variants.{Passed, Refused}
 use Rattle.frame.proofs.Parts.{part-bits, frame-bits}
 use Rattle.frame.proofs.Bodies.{taken}
@@ -81,37 +82,41 @@ module _ (f : List ℕ) where
 
 -- ---- what they said
 
--- a number, which is not 0
-pub preamble-number : (f : List ℕ) (n : ℕ) → preambleOf f ≡ Refused n → (n ≡ firstRefusal (beforeRepair f)) × (n ≡ 0 → ⊥)
-unfolding preambleOf
-preamble-number f n = go (eqb (firstRefusal (beforeRepair f)) 0) refl
-  where
-    m : ℕ
-    m = firstRefusal (beforeRepair f)
-
-    go : (t : Bool) → eqb m 0 ≡ t → cond t (Passed (fieldAt f 0 1) (fittingPattern (syncIn f)) (fittingDiffering (syncIn f))) (Refused m) ≡ Refused n
-        → (n ≡ m) × (n ≡ 0 → ⊥)
-    go true q e = let z : _≡_ {A = ℕ} 0 1 = cc in absurd (omega arith)
-    go false q e = let k : m ≡ n = cc in (sym k, λ z. eqb-false m 0 q (k ∙ z))
-
--- or nothing is refused, and these stand before the word
-pub record PassedIn (f : List ℕ) (x p d : ℕ) : Type 0 where
+-- nothing is refused, and these stand before the word
+pub record PreamblePassed (f : List ℕ) (x p d : ℕ) : Type 0 where
   pub none : firstRefusal (beforeRepair f) ≡ 0
   pub reference : x ≡ fieldAt f 0 1
   pub pattern : p ≡ fittingPattern (syncIn f)
   pub differing : d ≡ fittingDiffering (syncIn f)
 
-pub preamble-passed : (f : List ℕ) (x p d : ℕ) → preambleOf f ≡ Passed x p d → PassedIn f x p d
-unfolding preambleOf
-preamble-passed f x p d = go (eqb (firstRefusal (beforeRepair f)) 0) refl
+-- or the answer is a number, which is not 0
+pub record PreambleRefused (f : List ℕ) (n : ℕ) : Type 0 where
+  pub number : n ≡ firstRefusal (beforeRepair f)
+  pub some : n ≡ 0 → ⊥
+
+-- what an answer says
+SaidIn : List ℕ → Preamble → Type 0
+SaidIn f (Passed x p d) = PreamblePassed f x p d
+SaidIn f (Refused n) = PreambleRefused f n
+
+said : (f : List ℕ) → SaidIn f (preambleOf f)
+unfolding preambleOf SaidIn
+said f = go (eqb (firstRefusal (beforeRepair f)) 0) refl
   where
     m : ℕ
     m = firstRefusal (beforeRepair f)
 
-    go : (t : Bool) → eqb m 0 ≡ t → cond t (Passed (fieldAt f 0 1) (fittingPattern (syncIn f)) (fittingDiffering (syncIn f))) (Refused m) ≡ Passed x p d
-        → PassedIn f x p d
-    go true q e = record { none = eqb-true m 0 q; reference = cc; pattern = cc; differing = cc }
-    go false q e = let z : _≡_ {A = ℕ} 0 1 = cc in absurd (omega arith)
+    go : (t : Bool) → eqb m 0 ≡ t → SaidIn f (cond t (Passed (fieldAt f 0 1) (fittingPattern (syncIn f)) (fittingDiffering (syncIn f))) (Refused m))
+    go true q = record { none = eqb-true m 0 q; reference = refl; pattern = refl; differing = refl }
+    go false q = record { number = refl; some = eqb-false m 0 q }
+
+pub preamble-passed : (f : List ℕ) (x p d : ℕ) → preambleOf f ≡ Passed x p d → PreamblePassed f x p d
+unfolding SaidIn
+preamble-passed f x p d e = subst (SaidIn f) e (said f)
+
+pub preamble-number : (f : List ℕ) (n : ℕ) → preambleOf f ≡ Refused n → PreambleRefused f n
+unfolding SaidIn
+preamble-number f n e = subst (SaidIn f) e (said f)
 
 -- ---- the repaired frame
 

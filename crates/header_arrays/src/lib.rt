@@ -1,4 +1,5 @@
-// Arrays of a header's values: zeros, runs of values copied, and a search. Nothing here is an entry point of the box.
+// Arrays of a header's values: zeros, runs of values copied, and a search. Nothing here is an entry point of the box. That a run finds room is required: the
+// callers copy at fixed places, out of and into the values of a header, whose number they know.
 ghost use mathlib.Core.Path.{_≡_};
 ghost use Prim.Native.Nat.{_+_, _*_, _<_, _≤_};
 ghost use lib.ListN.{length, replicate};

@@ -87,8 +87,11 @@ Bytes-clean : (f : List ℕ) → Bytes (cleanOf f)
 unfolding cleanOf
 Bytes-clean f = bytes-Bytes 26 _
 
+first-204 : (g : List ℕ) → length g ≡ 26 → length (take 204 (bits g)) ≡ 204
+first-204 g h = length-take-le 204 (bits g) (omega (arith, length-bits g))
+
 length-repaired : (f : List ℕ) → length (repairedBits f) ≡ 204
-length-repaired f = length-take-le 204 (bits (cleanOf f)) (omega (arith, length-bits (cleanOf f), length-clean f))
+length-repaired f = first-204 (cleanOf f) (length-clean f)
 
 length-ones : length (replicate 204 true) ≡ 204
 length-ones = length-replicate 204 true
