@@ -13,12 +13,13 @@ use Rattle.bits.specs.Segment.{widths, withFixed, packSegments}
 use Rattle.bits.proofs.Bits.{length-bitsOf, getD-bitsOf}
 use Rattle.frame.specs.Area.{warnedIn}
 use Rattle.frame.specs.Body.{row, layout}
-use Rattle.frame.specs.Identification.{classOf}
 use Rattle.frame.specs.Fields.{gather, bodyValues, recordBody}
 use Rattle.frame.specs.Write.{frameOf}
+use Rattle.frame.specs.declared.Edition.{Edition}
 use Rattle.frame.specs.declared.Body.{Body}
 use Rattle.frame.specs.declared.Body.the-variants.{AreaPage}
 use Rattle.frame.specs.declared.Record.{Record}
+use Rattle.frame.proofs.Identifications.{warning-class}
 use Rattle.frame.proofs.Frames.{length-frame, parts-frame, own-parts}
 
 -- bit k after w bits of a number
@@ -37,15 +38,14 @@ in-details r k h =
     ∙ getD-bitsOf 56 (r .areas) k h
     ∙ ap (λ (n : ℕ). odd (r .areas / 2 ^ n)) (omega arith)
 
-module _ (r : Record) (warning : r .identification ≤ 3) (page : r .page ≡ 0) (k : ℕ) (h : k < 56) where
-  body : recordBody r ≡ AreaPage
-  unfolding classOf
-  body = rw (le-leb (r .identification) 3 warning, page)
+module _ (ed : Edition) (r : Record) (warning : r .identification ≤ 3) (page : r .page ≡ 0) (k : ℕ) (h : k < 56) where
+  body : recordBody ed r ≡ AreaPage
+  body = rw (warning-class ed (r .identification) warning, page)
 
-  on-air : getD (bits (frameOf r)) (56 + k) false ≡ odd (r .areas / 2 ^ (55 - k))
+  on-air : getD (bits (frameOf ed r)) (56 + k) false ≡ odd (r .areas / 2 ^ (55 - k))
   on-air =
-      let b = bits (frameOf r) in
-      let details = own-parts r (frameOf r) (length-frame r) (parts-frame r .word) .details in
+      let b = bits (frameOf ed r) in
+      let details = own-parts ed r (frameOf ed r) (length-frame ed r) (parts-frame ed r .word) .details in
       ap (λ (n : ℕ). getD b n false) (omega arith)
       ∙ sym (getD-drop 24 b (32 + k) false)
       ∙ sym (getD-take 88 (drop 24 b) (32 + k) false (omega arith))
@@ -53,6 +53,6 @@ module _ (r : Record) (warning : r .identification ≤ 3) (page : r .page ≡ 0)
       ∙ ap (λ (y : Body). getD (packSegments (layout y) (bodyValues y r)) (32 + k) false) body
       ∙ in-details r k h
 
-  pub warned-on-air : warnedIn r k ≡ not (getD (bits (frameOf r)) (56 + k) false)
+  pub warned-on-air : warnedIn r k ≡ not (getD (bits (frameOf ed r)) (56 + k) false)
   unfolding warnedIn
   warned-on-air = rw (le-leb (r .identification) 3 warning, eq-eqb (r .page) 0 page, le-leb k 55 (omega arith)) (ap not (sym on-air))

@@ -21,10 +21,11 @@ use Rattle.frame.specs.Body.{bodyOf, row, layout, indices, ownUpdate}
 use Rattle.frame.specs.Span.{spanOf, between}
 use Rattle.frame.specs.Fields.{fieldCount, fields, recordFrom, gather, scatter, beforeDetails, inFields, fieldWidths, bodyValues, recordBody, tooWide, overLimit, recordOf}
 use Rattle.frame.specs.Write.{recordRefusal, Legal}
+use Rattle.frame.specs.declared.Edition.{Edition}
 use Rattle.frame.specs.declared.Class.{Class}
-use Rattle.frame.specs.declared.Class.the-variants.{Warning, Silent, Undefined}
+use Rattle.frame.specs.declared.Class.the-variants.{Warning, Safety, Silent, Undefined}
 use Rattle.frame.specs.declared.Body.{Body}
-use Rattle.frame.specs.declared.Body.the-variants.{AreaPage, PlacePage, CancelPage, NoInformation}
+use Rattle.frame.specs.declared.Body.the-variants.{AreaPage, PlacePage, CancelPage, SafetyInformation, NoInformation}
 use Rattle.frame.specs.declared.Record.{Record}
 use Rattle.frame.proofs.Indices.{length-scatter, absent, apart, scatter-other, scatter-shared, gather-scatter, fit-at, fit-gather, fit-scatter, Agree, next, agree-scatter, agree-fit, agree-none}
 
@@ -35,6 +36,7 @@ pub data Chosen : Class → ℕ → ℕ → Body → Type 0 where
   area : {p k : ℕ} → p ≢ 1 → Chosen Warning p k AreaPage
   place : {p k : ℕ} → p ≡ 1 → k ≢ 1 → Chosen Warning p k PlacePage
   cancel : {p k : ℕ} → p ≡ 1 → k ≡ 1 → Chosen Warning p k CancelPage
+  safety : {p k : ℕ} → Chosen Safety p k SafetyInformation
   silent : {p k : ℕ} → Chosen Silent p k NoInformation
   undefined : {p k : ℕ} → Chosen Undefined p k NoInformation
 
@@ -45,34 +47,36 @@ chosen Warning p k = go (eqb p 1) (eqb k 1) refl refl
     go true true es et = cancel (eqb-true p 1 es) (eqb-true k 1 et)
     go true false es et = place (eqb-true p 1 es) (eqb-false k 1 et)
     go false t es et = area (eqb-false p 1 es)
+chosen Safety p k = safety
 chosen Silent p k = silent
 chosen Undefined p k = undefined
 
 -- ---- legal records
 
-pub record Sound (r : Record) : Type 0 where
-  pub known : isUndefined (classOf (r .identification)) ≡ false
-  pub fit : Fit (fieldWidths (recordBody r)) (fields r)
-  pub limits : overLimit (recordBody r) (r .latitude) (r .longitude) ≡ false
+module _ (ed : Edition) where
+  pub record Sound (r : Record) : Type 0 where
+    pub known : isUndefined (classOf ed (r .identification)) ≡ false
+    pub fit : Fit (fieldWidths (recordBody ed r)) (fields r)
+    pub limits : overLimit (recordBody ed r) (r .latitude) (r .longitude) ≡ false
 
-refusals : Record → List (ℕ × Bool)
-refusals r =
-    (6, isUndefined (classOf (r .identification))) ∷ (10, tooWide r) ∷ (9, overLimit (recordBody r) (r .latitude) (r .longitude)) ∷ []
+  refusals : Record → List (ℕ × Bool)
+  refusals r =
+      (6, isUndefined (classOf ed (r .identification))) ∷ (10, tooWide ed r) ∷ (9, overLimit (recordBody ed r) (r .latitude) (r .longitude)) ∷ []
 
-pub legal-sound : (r : Record) → Legal r → Sound r
-unfolding recordRefusal refusals
-legal-sound r e =
-    let h = refusal-none (refusals r) refl e in
-    record {
-      known = h .0;
-      fit = fitb-fit (fieldWidths (recordBody r)) (fields r) (not-false (fitb (fieldWidths (recordBody r)) (fields r)) (h .1 .0));
-      limits = h .1 .1 .0;
-    }
+  pub legal-sound : (r : Record) → Legal ed r → Sound r
+  unfolding recordRefusal refusals
+  legal-sound r e =
+      let h = refusal-none (refusals r) refl e in
+      record {
+        known = h .0;
+        fit = fitb-fit (fieldWidths (recordBody ed r)) (fields r) (not-false (fitb (fieldWidths (recordBody ed r)) (fields r)) (h .1 .0));
+        limits = h .1 .1 .0;
+      }
 
-pub sound-legal : (r : Record) → Sound r → Legal r
-unfolding recordRefusal refusals
-sound-legal r s =
-    none-refusal (refusals r) (s .known, (rw (fit-fitb (fieldWidths (recordBody r)) (fields r) (s .fit)), (s .limits, tt)))
+  pub sound-legal : (r : Record) → Sound r → Legal ed r
+  unfolding recordRefusal refusals
+  sound-legal r s =
+      none-refusal (refusals r) (s .known, (rw (fit-fitb (fieldWidths (recordBody ed r)) (fields r) (s .fit)), (s .limits, tt)))
 
 -- ---- the tables
 
@@ -123,6 +127,7 @@ unfolding row layout widths sum scatter fieldWidths freeWidths spanOf rightRow a
 right-row AreaPage = refl
 right-row PlacePage = refl
 right-row CancelPage = refl
+right-row SafetyInformation = refl
 right-row NoInformation = refl
 
 -- the same as facts
@@ -253,6 +258,7 @@ update-agrees : (b : Body) (r : Record) {c : Class} → Chosen c (r .page) (r .k
 update-agrees AreaPage r (area n) h = refl
 update-agrees PlacePage r (place p n) h = refl
 update-agrees CancelPage r (cancel p k) h = refl
+update-agrees SafetyInformation r safety h = refl
 update-agrees NoInformation r k h = omega arith
 
 -- and the record that is found there: what is not free is 0
@@ -290,6 +296,7 @@ unfolding row layout gather bodyValues widths withFixed sum
 body-again AreaPage r (area n) f = rw (found AreaPage r f 1, ne-eqb (r .page) 1 n)
 body-again PlacePage r (place p n) f = rw (found PlacePage r f 1, found PlacePage r f 5, p, ne-eqb (r .kind) 1 n)
 body-again CancelPage r (cancel p k) f = rw (found CancelPage r f 1, found CancelPage r f 5, p, k)
+body-again SafetyInformation r safety f = refl
 body-again NoInformation r silent f = refl
 body-again NoInformation r undefined f = refl
 
@@ -306,6 +313,7 @@ own-lt : (b : Body) (u : ℕ) → u < 4 → ownUpdate b u < 2 ^ ownUpdate b 2
 own-lt AreaPage u h = h
 own-lt PlacePage u h = h
 own-lt CancelPage u h = h
+own-lt SafetyInformation u h = h
 own-lt NoInformation u h = omega arith
 
 fit-none : (n : ℕ) → Fit (replicate n 0) (replicate n 0)
@@ -330,6 +338,7 @@ unfolding row layout scatter recordFrom recordOf widths free unpack
 record-body AreaPage x p i u d (area n) = rw (ne-eqb (value (take 1 (drop 31 d))) 1 n)
 record-body PlacePage x p i u d (place e n) = rw (e, kind-at d, ne-eqb (value (take 1 (drop 43 d))) 1 n)
 record-body CancelPage x p i u d (cancel e k) = rw (e, kind-at d, k)
+record-body SafetyInformation x p i u d safety = refl
 record-body NoInformation x p i u d silent = refl
 record-body NoInformation x p i u d undefined = refl
 

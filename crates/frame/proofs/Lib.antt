@@ -1,8 +1,10 @@
 pub mod Parts
 pub mod Indices
+pub mod Identifications
 pub mod Bodies
 pub mod Frames
 pub mod Areas
 pub mod Readings
 pub mod Promises
+pub mod Editions
 pub mod Worked

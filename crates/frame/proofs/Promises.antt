@@ -31,6 +31,7 @@ use Rattle.frame.specs.Read.{identificationIn, bodyIn, valuesIn, recordI
 use Rattle.frame.specs.Area.{warnedIn}
 use Rattle.frame.specs.Write.{Legal, messageBits, recordRefusal, frameOf, writeNumber, writeOf}
 use Rattle.frame.specs.Promises.{HitFrame, hitFrame, Mended, Told, Demand2, AreasOnAir, BitNumbers}
+use Rattle.frame.specs.declared.Edition.{Edition}
 use Rattle.frame.specs.declared.Record.{Record}
 use Rattle.frame.specs.declared.Damage.{Damage}
 use Rattle.frame.specs.declared.Reading.{Reading}
@@ -41,316 +42,317 @@ use Rattle.frame.proofs.Frames.{wordOf, record-word, length-frame, part
 use Rattle.frame.proofs.Areas.{warned-on-air}
 use Rattle.frame.proofs.Readings.{Judged, accepted-judged, judged-accepted, judged-places, judged-dist, judged-read, read-legal, read-word}
 
--- ---- written and read
-
--- a frame that has what stands outside the word of a legal record's frame, m bits of the pattern apart, and whose word is repaired to that record's
-read-record : (r : Record) (f : List ℕ) (m n : ℕ) → Legal r → length f ≡ 26 → Outside r m f → repairOf f ≡ repairedTo (wordOf r) n
-    → readOf f ≡ Accepted r (record { repaired = n; differing = m })
-read-record r f m n l h o e =
-    let fit = legal-sound r l .fit in
-    let d : Damage = record { repaired = n; differing = m } in
-    let j : Judged f =
-    record {
-      word = wordOf r;
-      places = n;
-      pattern = r .pattern;
-      differing = m;
-      size = h;
-      filler = o .filler;
-      sync = o .sync;
-      code-word = record-word r;
-      repaired = e;
-      tests = found-accepted r l;
-    } in
-    judged-read f j
-    ∙ ap (λ (x : ℕ). Accepted (recordIn x (r .pattern) (wordBytes (wordOf r))) d) (o .reference)
-    ∙ ap (λ (y : Record). Accepted y d) (found-record r fit)
-
-hit-comes-back : (r : Record) (s e : List Bool) (f : List ℕ) → Legal r → HitFrame r s e f
-    → readOf f ≡ Accepted r (record { repaired = weight e; differing = weight s })
-hit-comes-back r s e f l h =
-    let w = h .word in
-    read-record r f (weight s) (weight e) l (h .size) (outside r (legal-sound r l .fit) f s (h .outside) (h .sync))
-    (demand3 .gives-sent-word f (wordOf r) e (h .size) (record-word r) (w .places) (w .few) (w .hit ∙ ap (add e) (parts-frame r .word)))
-
-hit-some : (r : Record) (s e : List Bool) → length s ≡ 16 → weight s ≤ 3 → length e ≡ 187 → weight e ≤ 8 → HitFrame r s e (hitFrame r s e)
-unfolding hitFrame
-hit-some r s e ns ks ne ke =
-    let g = frameOf r in
-    let f = hitFrame r s e in
-    let x = take 1 (bits g) in
-    let y = add s (syncBits g) in
-    let w = add e (protected g) in
-    let z = drop 204 (bits g) in
-    let lg : length (bits g) ≡ 208 = frame-bits g (length-frame r) in
-    let lx : length x ≡ 1 = length-part 0 1 (bits g) (omega arith) in
-    let ly : length y ≡ 16 = length-add s (syncBits g) ∙ length-part 1 16 (bits g) (omega arith) in
-    let lw : length w ≡ 187 = length-add e (protected g) ∙ length-protected g (length-frame r) in
-    let b : bits f ≡ x ++ (y ++ (w ++ z)) =
-    bits-bytes 26 (x ++ (y ++ (w ++ z)))
-    (length-append x (y ++ (w ++ z)) ∙ omega (arith, length-append y (w ++ z), length-append w z, length-drop 204 (bits g))) in
-    let size : length f ≡ 26 = length-bytes 26 (x ++ (y ++ (w ++ z))) in
-    let p = frame-parts f x y w z size lx ly lw b in
-    record {
-      size = size;
-      outside = record { reference = p .reference; filler = sym (filler-whole f size) ∙ p .filler };
-      sync = record { places = ns; few = ks; hit = p .pattern };
-      word = record { places = ne; few = ke; hit = p .word };
-    }
-
--- a record's own frame needs no repair
-pub repair-own : (r : Record) → repairOf (frameOf r) ≡ repairedTo (wordOf r) 0
-repair-own r =
-    let f = frameOf r in
-    let d : dist (protected f) (wordOf r) ≡ 0 = ap (λ (w : List Bool). dist w (wordOf r)) (parts-frame r .word) ∙ dist-same (wordOf r) in
-    repair-found f (length-frame r) (wordOf r) (record-word r) (omega arith) ∙ ap (repairedTo (wordOf r)) d
-
-pub comes-back : (r : Record) → Legal r → readOf (frameOf r) ≡ Accepted r noDamage
-comes-back r l = read-record r (frameOf r) 0 0 l (length-frame r) (own-outside r (legal-sound r l .fit)) (repair-own r)
-
-written-apart : (r s : Record) → Legal r → Legal s → frameOf r ≡ frameOf s → r ≡ s
-written-apart r s lr ls e = let same = sym (comes-back r lr) ∙ ap readOf e ∙ comes-back s ls in cc
-
--- ---- read and written
-
-module _ (f : List ℕ) (j : Judged f) where
-  -- the record that is read, and what was damaged
-  recorded : Record
-  recorded = recordIn (fieldAt f 0 1) (j .pattern) (wordBytes (j .word))
-
-  damaged : Damage
-  damaged = record { repaired = j .places; differing = j .differing }
-
-  recorded-sync : Fitting (syncBits f) (j .pattern) (j .differing)
-  recorded-sync = pattern-test .fits-only (syncBits f) (j .pattern) (j .differing) (j .sync)
-
-  recorded-legal : Legal recorded
-  unfolding recorded
-  recorded-legal =
-      read-legal (j .word) (j .code-word) (j .tests) (fieldAt f 0 1) (j .pattern) (value-take-lt 1 (drop 0 (bits f))) (recorded-sync .pattern)
-
-  recorded-word : wordOf recorded ≡ j .word
-  unfolding recorded
-  recorded-word = read-word (j .word) (j .code-word) (j .tests) (fieldAt f 0 1) (j .pattern)
-
-  recorded-taken : (recorded .reference ≡ fieldAt f 0 1) × (recorded .pattern ≡ j .pattern)
-  unfolding recorded
-  recorded-taken =
-      let c = wordBytes (j .word) in
-      let y = taken (bodyIn c) (fieldAt f 0 1) (j .pattern) (identificationIn c) (fieldAt c 19 2) (valuesIn c) in
-      (y .reference, y .pattern)
-
-  recorded-frame : frameOf recorded ≡ cleanOf f
-  unfolding frameOf cleanOf
-  recorded-frame =
-      let m = messageBits recorded in
-      let p = parityOf m in
-      let w : wordOf recorded ≡ protected (repairOf f .word) =
-      recorded-word
-      ∙ sym (ap (λ (a : Answer). protected (a .word)) (j .repaired) ∙ protected-wordBytes (j .word) (length-word (j .word) (j .code-word))) in
-      ap₂ (λ (x y : ℕ). bytes 26 (bitsOf 1 x ++ (patternBits y ++ (m ++ (p ++ zeros 4))))) (recorded-taken .0)
-      (recorded-taken .1 ∙ sym (ap fittingPattern (j .sync)))
-      ∙ ap (λ (l : List Bool). bytes 26 (bitsOf 1 (fieldAt f 0 1) ++ (patternBits (fittingPattern (syncIn f)) ++ l)))
-      (sym (append-assoc m p (zeros 4)) ∙ ap (_++ zeros 4) w)
-
-  recorded-mended : Mended f (frameOf recorded) (recorded .pattern) damaged
-  unfolding bitsOf odd damaged
-  recorded-mended =
-      let r = recorded in
-      let b = bits f in
-      let lb : length b ≡ 208 = frame-bits f (j .size) in
-      let p = parts-frame r in
-      let y = recorded-sync in
-      let sync : differingFrom (j .pattern) (syncBits f) ≡ dist (syncBits f) (syncBits (frameOf r)) =
-      differing-dist (j .pattern) (syncBits f) ∙ ap (dist (syncBits f)) (ap patternBits (sym (recorded-taken .1)) ∙ sym (p .pattern)) in
-      let filler : take 4 (drop 204 b) ≡ zeros 4 = sym (part-bits 204 4 b (omega arith)) ∙ ap (bitsOf 4) (j .filler) in
-      record {
-        size = length-frame r;
-        outside =
-            record {
-              reference = p .reference ∙ ap (bitsOf 1) (recorded-taken .0) ∙ part-bits 0 1 b (omega arith);
-              filler = sym (filler-whole (frameOf r) (length-frame r)) ∙ p .filler ∙ sym filler ∙ filler-whole f (j .size);
-            };
-        pattern = p .pattern;
-        differing = record { count = y .differing ∙ sync; few = y .few };
-        word = subst CodeWord (sym (p .word)) (record-word r);
-        repaired = record { count = judged-dist f j .0 ∙ ap (dist (protected f)) (sym (p .word ∙ recorded-word)); few = judged-dist f j .1 };
-      }
-
--- what is known of an accepted frame
-record Known (f : List ℕ) (r : Record) (d : Damage) : Type 0 where
-  judged : Judged f
-  is : recorded f judged ≡ r
-  damage : damaged f judged ≡ d
-
-pub refused-read : (f : List ℕ) → frameRefusal f ≢ 0 → readOf f ≡ Refused (frameRefusal f)
-unfolding readOf
-refused-read f n = rw (ne-eqb (frameRefusal f) 0 n)
-
-known : (f : List ℕ) (r : Record) (d : Damage) → readOf f ≡ Accepted r d → Known f r d
-unfolding recorded damaged
-known f r d e = go (eqb (frameRefusal f) 0) refl
-  where
-    go : (t : Bool) → eqb (frameRefusal f) 0 ≡ t → Known f r d
-    go true q =
-        let j = accepted-judged f (eqb-true (frameRefusal f) 0 q) in
-        let same = sym (judged-read f j) ∙ e in
-        record { judged = j; is = cc; damage = cc }
-    go false q =
-        let same = sym (refused-read f (eqb-false (frameRefusal f) 0 q)) ∙ e in
-        let z : _≡_ {A = ℕ} 0 1 = cc in absurd (omega arith)
-
-module _ (f : List ℕ) (r : Record) (d : Damage) (e : readOf f ≡ Accepted r d) where
-  read-is-legal : Legal r
-  read-is-legal = let k = known f r d e in subst Legal (k .is) (recorded-legal f (k .judged))
-
-  written-again : frameOf r ≡ cleanOf f
-  written-again = let k = known f r d e in ap frameOf (sym (k .is)) ∙ recorded-frame f (k .judged)
-
-  mended : Mended f (cleanOf f) (r .pattern) d
-  mended =
-      let k = known f r d e in
-      let j = k .judged in
-      subst (λ (y : Record). Mended f (cleanOf f) (y .pattern) d) (k .is)
-      (subst (λ (n : Damage). Mended f (cleanOf f) (recorded f j .pattern) n) (k .damage)
-      (subst (λ (g : List ℕ). Mended f g (recorded f j .pattern) (damaged f j)) (recorded-frame f j) (recorded-mended f j)))
-
-  mended-read : readOf (cleanOf f) ≡ Accepted r noDamage
-  mended-read = ap readOf (sym written-again) ∙ comes-back r read-is-legal
-
-  by-bit : (k : ℕ) → r .identification ≤ 3 → r .page ≡ 0 → k < 56 → warnedIn r k ≡ not (getD (bits (cleanOf f)) (56 + k) false)
-  by-bit k w p h = warned-on-air r w p k h ∙ ap (λ (g : List ℕ). not (getD (bits g) (56 + k) false)) written-again
-
-  accepted : frameRefusal f ≡ 0
-  accepted = judged-accepted f (known f r d e .judged)
-
-  verdict : judgeOf f ≡ record { number = 0; repaired = d .repaired }
-  unfolding judgeOf damaged
-  verdict =
-      let k = known f r d e in
-      let n : placesIn f ≡ d .repaired = judged-places f (k .judged) ∙ ap (λ (x : Damage). x .repaired) (k .damage) in rw (accepted, n)
-
-bytes-frame : (r : Record) → Bytes (frameOf r)
-unfolding frameOf
-bytes-frame r = bytes-Bytes 26 _
-
-undamaged : (f : List ℕ) (r : Record) → Bytes f → readOf f ≡ Accepted r noDamage → frameOf r ≡ f
-undamaged f r h e =
-    let m = mended f r noDamage e in
-    let g = cleanOf f in
-    let lf = known f r noDamage e .judged .size in
-    let lb : length (bits f) ≡ 208 = frame-bits f lf in
-    let lc : length (bits g) ≡ 208 = frame-bits g (m .size) in
-    let s : syncBits g ≡ syncBits f =
-    sym (dist-none (syncBits f) (syncBits g) (length-part 1 16 (bits f) (omega arith) ∙ sym (length-part 1 16 (bits g) (omega arith))) (sym (m .differing .count))) in
-    let w : protected g ≡ protected f =
-    sym (dist-none (protected f) (protected g) (length-protected f lf ∙ sym (length-protected g (m .size))) (sym (m .repaired .count))) in
-    let b : bits g ≡ bits f =
-    frame-split g (m .size)
-    ∙ ap₂ (λ (x y : List Bool). x ++ (y ++ (protected g ++ take 4 (drop 204 (bits g))))) (m .outside .reference) s
-    ∙ ap₂ (λ (x y : List Bool). take 1 (bits f) ++ (syncBits f ++ (x ++ take 4 y))) w (m .outside .filler)
-    ∙ sym (frame-split f lf) in
-    written-again f r noDamage e ∙ bits-inj g f (subst Bytes (written-again f r noDamage e) (bytes-frame r)) h (m .size ∙ sym lf) b
-
--- ---- refusal 3
-
-no-pattern : (f : List ℕ) → length f ≡ 26 → fieldAt f 204 4 ≡ 0 → FarFromBoth (syncBits f) → frameRefusal f ≡ 3
-unfolding frameRefusal
-no-pattern f h z far =
-    refusal-later 1 _ (ap not (eq-eqb (length f) 26 h))
-    ∙ refusal-later 2 _ (ap not (eq-eqb (fieldAt f 204 4) 0 z))
-    ∙ refusal-here 3 _ (ap (λ (y : Sync). not (eqb (syncNumber y) 0)) (pattern-test .neither (syncBits f) far))
-
-no-pattern-only : (f : List ℕ) → frameRefusal f ≡ 3 → FarFromBoth (syncBits f)
-unfolding frameRefusal
-no-pattern-only f e =
-    let first : List (ℕ × Bool) = (1, not (eqb (length f) 26)) ∷ (2, not (eqb (fieldAt f 204 4) 0)) ∷ [] in
-    let later : List (ℕ × Bool) = (4, not (eqb (numberOf (repairOf f)) 0)) ∷ afterRepair (repairOf f .word) in
-    let n = syncNumber (syncIn f) in
-    let given : not (eqb n 0) ≡ true = refusal-met first later 3 (not (eqb n 0)) (omega arith) refl refl e in
-    pattern-test .neither-only (syncBits f) (fitting-none (syncIn f) (eqb-false n 0 (not-true (eqb n 0) given)))
-
--- ---- judged and read
-
-judged : (f : List ℕ) → (judgeOf f .number ≡ readingNumber (readOf f)) × (judgeOf f .repaired ≡ readingPlaces (readOf f))
-unfolding judgeOf readOf placesIn
-judged f = go (eqb (frameRefusal f) 0) refl
-  where
-    go : (t : Bool) → eqb (frameRefusal f) 0 ≡ t → (judgeOf f .number ≡ readingNumber (readOf f)) × (judgeOf f .repaired ≡ readingPlaces (readOf f))
-    go true q = rw (eqb-true (frameRefusal f) 0 q) (refl, refl)
-    go false q = rw q (refl, refl)
-
-judged-refused : (f : List ℕ) (n : ℕ) → readOf f ≡ Refused n → (n ≢ 0) × (judgeOf f ≡ record { number = n; repaired = 0 })
-unfolding judgeOf placesIn
-judged-refused f n e = go (eqb (frameRefusal f) 0) refl
-  where
-    go : (t : Bool) → eqb (frameRefusal f) 0 ≡ t → (n ≢ 0) × (judgeOf f ≡ record { number = n; repaired = 0 })
-    go true q =
-        let same = sym (judged-read f (accepted-judged f (eqb-true (frameRefusal f) 0 q))) ∙ e in
-        let z : _≡_ {A = ℕ} 0 1 = cc in absurd (omega arith)
-    go false q =
-        let ne = eqb-false (frameRefusal f) 0 q in
-        let same = sym (refused-read f ne) ∙ e in
-        let number : frameRefusal f ≡ n = cc in
-        (λ z. ne (number ∙ z), rw (q, number))
-
 -- ---- what is told
 
 told-as : (a b : Reading) → a ≡ b → Told a (readingNumber b) (readingPlaces b) (readingDiffering b) (readingFields b)
 told-as a b e =
     record { by-number = ap readingNumber e; by-places = ap readingPlaces e; by-differing = ap readingDiffering e; by-fields = ap readingFields e }
 
-number-told : (f : List ℕ) → readingNumber (readOf f) ≡ frameRefusal f
-unfolding judgeOf
-number-told f = sym (judged f .0)
+-- ---- written and read
 
--- ---- what is written
+module _ (ed : Edition) where
+  -- a frame that has what stands outside the word of a legal record's frame, m bits of the pattern apart, and whose word is repaired to that record's
+  read-record : (r : Record) (f : List ℕ) (m n : ℕ) → Legal ed r → length f ≡ 26 → Outside r m f → repairOf f ≡ repairedTo (wordOf ed r) n
+      → readOf ed f ≡ Accepted r (record { repaired = n; differing = m })
+  read-record r f m n l h o e =
+      let fit = legal-sound ed r l .fit in
+      let d : Damage = record { repaired = n; differing = m } in
+      let j : Judged ed f =
+      record {
+        word = wordOf ed r;
+        places = n;
+        pattern = r .pattern;
+        differing = m;
+        size = h;
+        filler = o .filler;
+        sync = o .sync;
+        code-word = record-word ed r;
+        repaired = e;
+        tests = found-accepted ed r l;
+      } in
+      judged-read ed f j
+      ∙ ap (λ (x : ℕ). Accepted (recordIn ed x (r .pattern) (wordBytes (wordOf ed r))) d) (o .reference)
+      ∙ ap (λ (y : Record). Accepted y d) (found-record ed r fit)
 
-written : (r : Record) (s : List ℕ) → Legal r → length s ≡ 26 → writeOf r s ≡ frameOf r
-unfolding writeOf writeNumber
-written r s l h =
-    let none : writeNumber r (length s) ≡ 0 = ap (writeNumber r) h ∙ l in
-    ap (λ n. cond (eqb n 0) (frameOf r) s) none
+  hit-comes-back : (r : Record) (s e : List Bool) (f : List ℕ) → Legal ed r → HitFrame ed r s e f
+      → readOf ed f ≡ Accepted r (record { repaired = weight e; differing = weight s })
+  hit-comes-back r s e f l h =
+      let w = h .word in
+      read-record r f (weight s) (weight e) l (h .size) (outside ed r (legal-sound ed r l .fit) f s (h .outside) (h .sync))
+      (demand3 .gives-sent-word f (wordOf ed r) e (h .size) (record-word ed r) (w .places) (w .few) (w .hit ∙ ap (add e) (parts-frame ed r .word)))
 
-unchanged : (r : Record) (s : List ℕ) → writeNumber r (length s) ≢ 0 → writeOf r s ≡ s
-unfolding writeOf
-unchanged r s h = rw (ne-eqb (writeNumber r (length s)) 0 h)
+  hit-some : (r : Record) (s e : List Bool) → length s ≡ 16 → weight s ≤ 3 → length e ≡ 187 → weight e ≤ 8 → HitFrame ed r s e (hitFrame ed r s e)
+  unfolding hitFrame
+  hit-some r s e ns ks ne ke =
+      let g = frameOf ed r in
+      let f = hitFrame ed r s e in
+      let x = take 1 (bits g) in
+      let y = add s (syncBits g) in
+      let w = add e (protected g) in
+      let z = drop 204 (bits g) in
+      let lg : length (bits g) ≡ 208 = frame-bits g (length-frame ed r) in
+      let lx : length x ≡ 1 = length-part 0 1 (bits g) (omega arith) in
+      let ly : length y ≡ 16 = length-add s (syncBits g) ∙ length-part 1 16 (bits g) (omega arith) in
+      let lw : length w ≡ 187 = length-add e (protected g) ∙ length-protected g (length-frame ed r) in
+      let b : bits f ≡ x ++ (y ++ (w ++ z)) =
+      bits-bytes 26 (x ++ (y ++ (w ++ z)))
+      (length-append x (y ++ (w ++ z)) ∙ omega (arith, length-append y (w ++ z), length-append w z, length-drop 204 (bits g))) in
+      let size : length f ≡ 26 = length-bytes 26 (x ++ (y ++ (w ++ z))) in
+      let p = frame-parts f x y w z size lx ly lw b in
+      record {
+        size = size;
+        outside = record { reference = p .reference; filler = sym (filler-whole f size) ∙ p .filler };
+        sync = record { places = ns; few = ks; hit = p .pattern };
+        word = record { places = ne; few = ke; hit = p .word };
+      }
 
-legal-exactly : (r : Record) → writeNumber r 26 ≡ recordRefusal r
-unfolding writeNumber
-legal-exactly r = refl
+  -- a record's own frame needs no repair
+  pub repair-own : (r : Record) → repairOf (frameOf ed r) ≡ repairedTo (wordOf ed r) 0
+  repair-own r =
+      let f = frameOf ed r in
+      let d : dist (protected f) (wordOf ed r) ≡ 0 = ap (λ (w : List Bool). dist w (wordOf ed r)) (parts-frame ed r .word) ∙ dist-same (wordOf ed r) in
+      repair-found f (length-frame ed r) (wordOf ed r) (record-word ed r) (omega arith) ∙ ap (repairedTo (wordOf ed r)) d
 
-pub demand2 : Demand2
-demand2 =
-    record {
-      comes-back = comes-back;
-      hit-comes-back = hit-comes-back;
-      told = λ r l. told-as _ _ (comes-back r l);
-      hit-told = λ r s e f l h. told-as _ _ (hit-comes-back r s e f l h);
-      hit-some = hit-some;
-      number-told = number-told;
-      refused-told = λ f n. told-as _ _ (refused-read f n);
-      no-pattern = no-pattern;
-      no-pattern-only = no-pattern-only;
-      written-again = written-again;
-      mended = mended;
-      undamaged = undamaged;
-      mended-read = mended-read;
-      read-legal = read-is-legal;
-      written-apart = written-apart;
-      judged = judged;
-      judged-accepted = verdict;
-      judged-refused = judged-refused;
-      legal-exactly = legal-exactly;
-      written = written;
-      unchanged = unchanged;
-    }
+  pub comes-back : (r : Record) → Legal ed r → readOf ed (frameOf ed r) ≡ Accepted r noDamage
+  comes-back r l = read-record r (frameOf ed r) 0 0 l (length-frame ed r) (own-outside ed r (legal-sound ed r l .fit)) (repair-own r)
 
-pub areas-on-air : AreasOnAir
-areas-on-air = record { by-bit = λ f r d k e. by-bit f r d e k; tokyo = λ f r d e w p. by-bit f r d e 15 w p (omega arith) }
+  written-apart : (r s : Record) → Legal ed r → Legal ed s → frameOf ed r ≡ frameOf ed s → r ≡ s
+  written-apart r s lr ls e = let same = sym (comes-back r lr) ∙ ap (readOf ed) e ∙ comes-back s ls in cc
+
+  -- ---- read and written
+
+  module _ (f : List ℕ) (j : Judged ed f) where
+    -- the record that is read, and what was damaged
+    recorded : Record
+    recorded = recordIn ed (fieldAt f 0 1) (j .pattern) (wordBytes (j .word))
+
+    damaged : Damage
+    damaged = record { repaired = j .places; differing = j .differing }
+
+    recorded-sync : Fitting (syncBits f) (j .pattern) (j .differing)
+    recorded-sync = pattern-test .fits-only (syncBits f) (j .pattern) (j .differing) (j .sync)
+
+    recorded-legal : Legal ed recorded
+    unfolding recorded
+    recorded-legal =
+        read-legal ed (j .word) (j .code-word) (j .tests) (fieldAt f 0 1) (j .pattern) (value-take-lt 1 (drop 0 (bits f))) (recorded-sync .pattern)
+
+    recorded-word : wordOf ed recorded ≡ j .word
+    unfolding recorded
+    recorded-word = read-word ed (j .word) (j .code-word) (j .tests) (fieldAt f 0 1) (j .pattern)
+
+    recorded-taken : (recorded .reference ≡ fieldAt f 0 1) × (recorded .pattern ≡ j .pattern)
+    unfolding recorded
+    recorded-taken =
+        let c = wordBytes (j .word) in
+        let y = taken (bodyIn ed c) (fieldAt f 0 1) (j .pattern) (identificationIn c) (fieldAt c 19 2) (valuesIn ed c) in
+        (y .reference, y .pattern)
+
+    recorded-frame : frameOf ed recorded ≡ cleanOf f
+    unfolding frameOf cleanOf
+    recorded-frame =
+        let m = messageBits ed recorded in
+        let p = parityOf m in
+        let w : wordOf ed recorded ≡ protected (repairOf f .word) =
+        recorded-word
+        ∙ sym (ap (λ (a : Answer). protected (a .word)) (j .repaired) ∙ protected-wordBytes (j .word) (length-word (j .word) (j .code-word))) in
+        ap₂ (λ (x y : ℕ). bytes 26 (bitsOf 1 x ++ (patternBits y ++ (m ++ (p ++ zeros 4))))) (recorded-taken .0)
+        (recorded-taken .1 ∙ sym (ap fittingPattern (j .sync)))
+        ∙ ap (λ (l : List Bool). bytes 26 (bitsOf 1 (fieldAt f 0 1) ++ (patternBits (fittingPattern (syncIn f)) ++ l)))
+        (sym (append-assoc m p (zeros 4)) ∙ ap (_++ zeros 4) w)
+
+    recorded-mended : Mended f (frameOf ed recorded) (recorded .pattern) damaged
+    unfolding bitsOf odd damaged
+    recorded-mended =
+        let r = recorded in
+        let b = bits f in
+        let lb : length b ≡ 208 = frame-bits f (j .size) in
+        let p = parts-frame ed r in
+        let y = recorded-sync in
+        let sync : differingFrom (j .pattern) (syncBits f) ≡ dist (syncBits f) (syncBits (frameOf ed r)) =
+        differing-dist (j .pattern) (syncBits f) ∙ ap (dist (syncBits f)) (ap patternBits (sym (recorded-taken .1)) ∙ sym (p .pattern)) in
+        let filler : take 4 (drop 204 b) ≡ zeros 4 = sym (part-bits 204 4 b (omega arith)) ∙ ap (bitsOf 4) (j .filler) in
+        record {
+          size = length-frame ed r;
+          outside =
+              record {
+                reference = p .reference ∙ ap (bitsOf 1) (recorded-taken .0) ∙ part-bits 0 1 b (omega arith);
+                filler = sym (filler-whole (frameOf ed r) (length-frame ed r)) ∙ p .filler ∙ sym filler ∙ filler-whole f (j .size);
+              };
+          pattern = p .pattern;
+          differing = record { count = y .differing ∙ sync; few = y .few };
+          word = subst CodeWord (sym (p .word)) (record-word ed r);
+          repaired = record { count = judged-dist ed f j .0 ∙ ap (dist (protected f)) (sym (p .word ∙ recorded-word)); few = judged-dist ed f j .1 };
+        }
+
+  -- what is known of an accepted frame
+  record Known (f : List ℕ) (r : Record) (d : Damage) : Type 0 where
+    judged : Judged ed f
+    is : recorded f judged ≡ r
+    damage : damaged f judged ≡ d
+
+  pub refused-read : (f : List ℕ) → frameRefusal ed f ≢ 0 → readOf ed f ≡ Refused (frameRefusal ed f)
+  unfolding readOf
+  refused-read f n = rw (ne-eqb (frameRefusal ed f) 0 n)
+
+  known : (f : List ℕ) (r : Record) (d : Damage) → readOf ed f ≡ Accepted r d → Known f r d
+  unfolding recorded damaged
+  known f r d e = go (eqb (frameRefusal ed f) 0) refl
+    where
+      go : (t : Bool) → eqb (frameRefusal ed f) 0 ≡ t → Known f r d
+      go true q =
+          let j = accepted-judged ed f (eqb-true (frameRefusal ed f) 0 q) in
+          let same = sym (judged-read ed f j) ∙ e in
+          record { judged = j; is = cc; damage = cc }
+      go false q =
+          let same = sym (refused-read f (eqb-false (frameRefusal ed f) 0 q)) ∙ e in
+          let z : _≡_ {A = ℕ} 0 1 = cc in absurd (omega arith)
+
+  module _ (f : List ℕ) (r : Record) (d : Damage) (e : readOf ed f ≡ Accepted r d) where
+    read-is-legal : Legal ed r
+    read-is-legal = let k = known f r d e in subst (Legal ed) (k .is) (recorded-legal f (k .judged))
+
+    written-again : frameOf ed r ≡ cleanOf f
+    written-again = let k = known f r d e in ap (frameOf ed) (sym (k .is)) ∙ recorded-frame f (k .judged)
+
+    mended : Mended f (cleanOf f) (r .pattern) d
+    mended =
+        let k = known f r d e in
+        let j = k .judged in
+        subst (λ (y : Record). Mended f (cleanOf f) (y .pattern) d) (k .is)
+        (subst (λ (n : Damage). Mended f (cleanOf f) (recorded f j .pattern) n) (k .damage)
+        (subst (λ (g : List ℕ). Mended f g (recorded f j .pattern) (damaged f j)) (recorded-frame f j) (recorded-mended f j)))
+
+    mended-read : readOf ed (cleanOf f) ≡ Accepted r noDamage
+    mended-read = ap (readOf ed) (sym written-again) ∙ comes-back r read-is-legal
+
+    by-bit : (k : ℕ) → r .identification ≤ 3 → r .page ≡ 0 → k < 56 → warnedIn r k ≡ not (getD (bits (cleanOf f)) (56 + k) false)
+    by-bit k w p h = warned-on-air ed r w p k h ∙ ap (λ (g : List ℕ). not (getD (bits g) (56 + k) false)) written-again
+
+    accepted : frameRefusal ed f ≡ 0
+    accepted = judged-accepted ed f (known f r d e .judged)
+
+    verdict : judgeOf ed f ≡ record { number = 0; repaired = d .repaired }
+    unfolding judgeOf damaged
+    verdict =
+        let k = known f r d e in
+        let n : placesIn ed f ≡ d .repaired = judged-places ed f (k .judged) ∙ ap (λ (x : Damage). x .repaired) (k .damage) in rw (accepted, n)
+
+  bytes-frame : (r : Record) → Bytes (frameOf ed r)
+  unfolding frameOf
+  bytes-frame r = bytes-Bytes 26 _
+
+  undamaged : (f : List ℕ) (r : Record) → Bytes f → readOf ed f ≡ Accepted r noDamage → frameOf ed r ≡ f
+  undamaged f r h e =
+      let m = mended f r noDamage e in
+      let g = cleanOf f in
+      let lf = known f r noDamage e .judged .size in
+      let lb : length (bits f) ≡ 208 = frame-bits f lf in
+      let lc : length (bits g) ≡ 208 = frame-bits g (m .size) in
+      let s : syncBits g ≡ syncBits f =
+      sym (dist-none (syncBits f) (syncBits g) (length-part 1 16 (bits f) (omega arith) ∙ sym (length-part 1 16 (bits g) (omega arith))) (sym (m .differing .count))) in
+      let w : protected g ≡ protected f =
+      sym (dist-none (protected f) (protected g) (length-protected f lf ∙ sym (length-protected g (m .size))) (sym (m .repaired .count))) in
+      let b : bits g ≡ bits f =
+      frame-split g (m .size)
+      ∙ ap₂ (λ (x y : List Bool). x ++ (y ++ (protected g ++ take 4 (drop 204 (bits g))))) (m .outside .reference) s
+      ∙ ap₂ (λ (x y : List Bool). take 1 (bits f) ++ (syncBits f ++ (x ++ take 4 y))) w (m .outside .filler)
+      ∙ sym (frame-split f lf) in
+      written-again f r noDamage e ∙ bits-inj g f (subst Bytes (written-again f r noDamage e) (bytes-frame r)) h (m .size ∙ sym lf) b
+
+  -- ---- refusal 3
+
+  no-pattern : (f : List ℕ) → length f ≡ 26 → fieldAt f 204 4 ≡ 0 → FarFromBoth (syncBits f) → frameRefusal ed f ≡ 3
+  unfolding frameRefusal
+  no-pattern f h z far =
+      refusal-later 1 _ (ap not (eq-eqb (length f) 26 h))
+      ∙ refusal-later 2 _ (ap not (eq-eqb (fieldAt f 204 4) 0 z))
+      ∙ refusal-here 3 _ (ap (λ (y : Sync). not (eqb (syncNumber y) 0)) (pattern-test .neither (syncBits f) far))
+
+  no-pattern-only : (f : List ℕ) → frameRefusal ed f ≡ 3 → FarFromBoth (syncBits f)
+  unfolding frameRefusal
+  no-pattern-only f e =
+      let first : List (ℕ × Bool) = (1, not (eqb (length f) 26)) ∷ (2, not (eqb (fieldAt f 204 4) 0)) ∷ [] in
+      let later : List (ℕ × Bool) = (4, not (eqb (numberOf (repairOf f)) 0)) ∷ afterRepair ed (repairOf f .word) in
+      let n = syncNumber (syncIn f) in
+      let given : not (eqb n 0) ≡ true = refusal-met first later 3 (not (eqb n 0)) (omega arith) refl refl e in
+      pattern-test .neither-only (syncBits f) (fitting-none (syncIn f) (eqb-false n 0 (not-true (eqb n 0) given)))
+
+  -- ---- judged and read
+
+  judged : (f : List ℕ) → (judgeOf ed f .number ≡ readingNumber (readOf ed f)) × (judgeOf ed f .repaired ≡ readingPlaces (readOf ed f))
+  unfolding judgeOf readOf placesIn
+  judged f = go (eqb (frameRefusal ed f) 0) refl
+    where
+      go : (t : Bool) → eqb (frameRefusal ed f) 0 ≡ t → (judgeOf ed f .number ≡ readingNumber (readOf ed f)) × (judgeOf ed f .repaired ≡ readingPlaces (readOf ed f))
+      go true q = rw (eqb-true (frameRefusal ed f) 0 q) (refl, refl)
+      go false q = rw q (refl, refl)
+
+  judged-refused : (f : List ℕ) (n : ℕ) → readOf ed f ≡ Refused n → (n ≢ 0) × (judgeOf ed f ≡ record { number = n; repaired = 0 })
+  unfolding judgeOf placesIn
+  judged-refused f n e = go (eqb (frameRefusal ed f) 0) refl
+    where
+      go : (t : Bool) → eqb (frameRefusal ed f) 0 ≡ t → (n ≢ 0) × (judgeOf ed f ≡ record { number = n; repaired = 0 })
+      go true q =
+          let same = sym (judged-read ed f (accepted-judged ed f (eqb-true (frameRefusal ed f) 0 q))) ∙ e in
+          let z : _≡_ {A = ℕ} 0 1 = cc in absurd (omega arith)
+      go false q =
+          let ne = eqb-false (frameRefusal ed f) 0 q in
+          let same = sym (refused-read f ne) ∙ e in
+          let number : frameRefusal ed f ≡ n = cc in
+          (λ z. ne (number ∙ z), rw (q, number))
+
+  number-told : (f : List ℕ) → readingNumber (readOf ed f) ≡ frameRefusal ed f
+  unfolding judgeOf
+  number-told f = sym (judged f .0)
+
+  -- ---- what is written
+
+  written : (r : Record) (s : List ℕ) → Legal ed r → length s ≡ 26 → writeOf ed r s ≡ frameOf ed r
+  unfolding writeOf writeNumber
+  written r s l h =
+      let none : writeNumber ed r (length s) ≡ 0 = ap (writeNumber ed r) h ∙ l in
+      ap (λ n. cond (eqb n 0) (frameOf ed r) s) none
+
+  unchanged : (r : Record) (s : List ℕ) → writeNumber ed r (length s) ≢ 0 → writeOf ed r s ≡ s
+  unfolding writeOf
+  unchanged r s h = rw (ne-eqb (writeNumber ed r (length s)) 0 h)
+
+  legal-exactly : (r : Record) → writeNumber ed r 26 ≡ recordRefusal ed r
+  unfolding writeNumber
+  legal-exactly r = refl
+
+  pub demand2 : Demand2 ed
+  demand2 =
+      record {
+        comes-back = comes-back;
+        hit-comes-back = hit-comes-back;
+        told = λ r l. told-as _ _ (comes-back r l);
+        hit-told = λ r s e f l h. told-as _ _ (hit-comes-back r s e f l h);
+        hit-some = hit-some;
+        number-told = number-told;
+        refused-told = λ f n. told-as _ _ (refused-read f n);
+        no-pattern = no-pattern;
+        no-pattern-only = no-pattern-only;
+        written-again = written-again;
+        mended = mended;
+        undamaged = undamaged;
+        mended-read = mended-read;
+        read-legal = read-is-legal;
+        written-apart = written-apart;
+        judged = judged;
+        judged-accepted = verdict;
+        judged-refused = judged-refused;
+        legal-exactly = legal-exactly;
+        written = written;
+        unchanged = unchanged;
+      }
+
+  pub areas-on-air : AreasOnAir ed
+  areas-on-air = record { by-bit = λ f r d k e. by-bit f r d e k; tokyo = λ f r d e w p. by-bit f r d e 15 w p (omega arith) }
 
 -- ---- the bit numbers
 
 pub bit-numbers : BitNumbers
 unfolding row
-bit-numbers = record { area = refl; place = refl; cancel = refl; no-information = refl; ends = λ b. ap (24 +_) (layout-sum b) }
+bit-numbers = record { area = refl; place = refl; cancel = refl; safety-information = refl; no-information = refl; ends = λ b. ap (24 +_) (layout-sum b) }

@@ -32,215 +32,218 @@ use Rattle.frame.specs.Body.{bodyOf, layout, ownUpdate}
 use Rattle.frame.specs.Fields.{fields, fieldWidths, bodyValues, recordBody, overLimit}
 use Rattle.frame.specs.Read.{identificationIn, classIn, bodyIn, detailsIn, valuesIn, recordIn, syncIn, beforeRepair, afterRepair, frameRefusal, placesIn, damageIn, readOf}
 use Rattle.frame.specs.Write.{Legal, announced, messageBits}
+use Rattle.frame.specs.declared.Edition.{Edition}
 use Rattle.frame.specs.declared.Class.{Class}
 use Rattle.frame.specs.declared.Body.{Body}
-use Rattle.frame.specs.declared.Body.the-variants.{AreaPage, PlacePage, CancelPage, NoInformation}
+use Rattle.frame.specs.declared.Body.the-variants.{AreaPage, PlacePage, CancelPage, SafetyInformation, NoInformation}
 use Rattle.frame.specs.declared.Damage.{Damage}
 use Rattle.frame.specs.declared.Reading.the-variants.{Accepted}
 use Rattle.frame.proofs.Parts.{regroup, inner-part, part-split, part-bits, length-part, frame-bits, word-split}
-use Rattle.frame.proofs.Bodies.{layout-sum, Chosen, area, place, cancel, silent, undefined, chosen, sound-legal, record-values, record-fit, record-body, taken}
+use Rattle.frame.proofs.Bodies.{layout-sum, Chosen, area, place, cancel, safety, silent, undefined, chosen, sound-legal, record-values, record-fit, record-body, taken}
 use Rattle.frame.proofs.Frames.{length-message, wordOf}
-
--- ---- accepted frames
-
--- a frame that no refusal is given to: its word, the number of places repaired, its pattern, the number of bits that differ from it
-pub record Judged (f : List ℕ) : Type 0 where
-  pub word : List Bool
-  pub places : ℕ
-  pub pattern : ℕ
-  pub differing : ℕ
-  pub size : length f ≡ 26
-  pub filler : fieldAt f 204 4 ≡ 0
-  pub sync : syncIn f ≡ Fits pattern differing
-  pub code-word : CodeWord word
-  pub repaired : repairOf f ≡ repairedTo word places
-  pub tests : NoneGiven (afterRepair (wordBytes word))
-
-refusals : List ℕ → List (ℕ × Bool)
-refusals f = beforeRepair f ++ (4, not (eqb (numberOf (repairOf f)) 0)) ∷ afterRepair (repairOf f .word)
-
-pub accepted-judged : (f : List ℕ) → frameRefusal f ≡ 0 → Judged f
-unfolding frameRefusal refusals
-accepted-judged f e =
-    let h = refusal-none (refusals f) refl e in
-    let size = eqb-true (length f) 26 (not-false (eqb (length f) 26) (h .0)) in
-    let number = eqb-true (numberOf (repairOf f)) 0 (not-false (eqb (numberOf (repairOf f)) 0) (h .1 .1 .1 .0)) in
-    go size number (h .1 .0) (h .1 .1 .0) (h .1 .1 .1 .1) (nearest (protected f) (length-protected f size))
-  where
-    go : length f ≡ 26 → numberOf (repairOf f) ≡ 0 → not (eqb (fieldAt f 204 4) 0) ≡ false → not (eqb (syncNumber (syncIn f)) 0) ≡ false
-        → NoneGiven (afterRepair (repairOf f .word)) → Nearest (protected f) → Judged f
-    go size number filler pattern tests (one c k d) =
-        let e = repair-found f size c k d in
-        record {
-          word = c;
-          places = dist (protected f) c;
-          pattern = fittingPattern (syncIn f);
-          differing = fittingDiffering (syncIn f);
-          size = size;
-          filler = eqb-true (fieldAt f 204 4) 0 (not-false (eqb (fieldAt f 204 4) 0) filler);
-          sync = fitting (syncIn f) (eqb-true (syncNumber (syncIn f)) 0 (not-false (eqb (syncNumber (syncIn f)) 0) pattern));
-          code-word = k;
-          repaired = e;
-          tests = subst (λ (a : Answer). NoneGiven (afterRepair (a .word))) e tests;
-        }
-    go size number filler pattern tests (none n) =
-        let z : _≡_ {A = ℕ} 4 0 = sym (ap numberOf (repair-none f size n)) ∙ number in absurd (omega arith)
-
-same-answer : (c w : List Bool) (m n : ℕ) → repairedTo c m ≡ repairedTo w n → (m ≡ n) × (wordBytes c ≡ wordBytes w)
-same-answer c w m n e = let o = ap (λ (a : Answer). a .outcome) e in (cc, ap (λ (a : Answer). a .word) e)
-
--- a frame whose word is repaired is judged by the repaired word
-pub repaired-refusal : (f : List ℕ) (w : List Bool) (n : ℕ) → length f ≡ 26 → fieldAt f 204 4 ≡ 0 → syncNumber (syncIn f) ≡ 0 → repairOf f ≡ repairedTo w n
-    → frameRefusal f ≡ firstRefusal (afterRepair (wordBytes w))
-unfolding frameRefusal
-repaired-refusal f w n size filler pattern e =
-    refusal-later 1 _ (ap not (eq-eqb (length f) 26 size))
-    ∙ refusal-later 2 _ (ap not (eq-eqb (fieldAt f 204 4) 0 filler))
-    ∙ refusal-later 3 _ (ap not (eq-eqb (syncNumber (syncIn f)) 0 pattern))
-    ∙ refusal-later 4 _ (ap (λ (a : Answer). not (eqb (numberOf a) 0)) e)
-    ∙ ap (λ (a : Answer). firstRefusal (afterRepair (a .word))) e
-
-module _ (f : List ℕ) (j : Judged f) where
-  pub judged-accepted : frameRefusal f ≡ 0
-  judged-accepted = repaired-refusal f (j .word) (j .places) (j .size) (j .filler) (ap syncNumber (j .sync)) (j .repaired) ∙ none-refusal (afterRepair (wordBytes (j .word))) (j .tests)
-
-  pub judged-places : placesIn f ≡ j .places
-  unfolding placesIn
-  judged-places = rw (judged-accepted, j .repaired)
-
-  judged-damage : _≡_ {A = Damage} (damageIn f) (record { repaired = j .places; differing = j .differing })
-  judged-damage = ap₂ (λ (m n : ℕ). record { repaired = m; differing = n }) judged-places (ap fittingDiffering (j .sync))
-
-  pub judged-read : readOf f
-      ≡ Accepted (recordIn (fieldAt f 0 1) (j .pattern) (wordBytes (j .word))) (record { repaired = j .places; differing = j .differing })
-  unfolding readOf
-  judged-read =
-      rw judged-accepted
-      (ap₂ Accepted (ap₂ (λ (p : ℕ) (a : Answer). recordIn (fieldAt f 0 1) p (a .word)) (ap fittingPattern (j .sync)) (j .repaired)) judged-damage)
-
-  -- the word differs from the received bits in as many places, at most eight
-  pub judged-dist : (j .places ≡ dist (protected f) (j .word)) × (j .places ≤ 8)
-  judged-dist = go (nearest (protected f) (length-protected f (j .size)))
-    where
-      go : Nearest (protected f) → (j .places ≡ dist (protected f) (j .word)) × (j .places ≤ 8)
-      go (one c k d) =
-          let w = j .word in
-          let same = same-answer c w (dist (protected f) c) (j .places) (sym (repair-found f (j .size) c k d) ∙ j .repaired) in
-          let n : dist (protected f) c ≡ j .places = same .0 in
-          let e : c ≡ w = sym (protected-wordBytes c (length-word c k)) ∙ ap protected (same .1) ∙ protected-wordBytes w (length-word w (j .code-word)) in
-          (sym n ∙ ap (dist (protected f)) e, omega arith)
-      go (none n) =
-          let z : _≡_ {A = ℕ} 4 0 = ap numberOf (sym (repair-none f (j .size) n) ∙ j .repaired) in absurd (omega arith)
-
--- ---- the record that is read
 
 -- the update, as the frame has it
 update-again : (b : Body) (u : ℕ) {c : Class} {page kind : ℕ} → Chosen c page kind b → isUndefined c ≡ false → u ≡ updateOf c u → updateOf c (ownUpdate b u) ≡ u
 update-again AreaPage u (area n) d e = refl
 update-again PlacePage u (place q n) d e = refl
 update-again CancelPage u (cancel q k) d e = refl
+update-again SafetyInformation u safety d e = refl
 update-again NoInformation u silent d e = sym e
 update-again NoInformation u undefined d e = absurd (true≢false d)
 
--- the body is chosen by what stands in the details
-chosen-in : (c : List ℕ) → Chosen (classIn c) (value (take 1 (drop 31 (detailsIn c)))) (value (take 1 (drop 43 (detailsIn c)))) (bodyIn c)
-chosen-in c =
-    rw (inner-part 1 31 88 24 (bits c) (omega arith), inner-part 1 43 88 24 (bits c) (omega arith)) (chosen (classIn c) (fieldAt c 55 1) (fieldAt c 67 1))
+same-answer : (c w : List Bool) (m n : ℕ) → repairedTo c m ≡ repairedTo w n → (m ≡ n) × (wordBytes c ≡ wordBytes w)
+same-answer c w m n e = let o = ap (λ (a : Answer). a .outcome) e in (cc, ap (λ (a : Answer). a .word) e)
 
-module _ (w : List Bool) (k : CodeWord w) (t : NoneGiven (afterRepair (wordBytes w))) (x p : ℕ) where
-  same-body : recordBody (recordIn x p (wordBytes w)) ≡ bodyIn (wordBytes w)
-  same-body =
-      let c = wordBytes w in
-      let r = recordIn x p c in
-      let b = bodyIn c in
-      let i = identificationIn c in
-      let u = fieldAt c 19 2 in
-      ap (λ (n : ℕ). bodyOf (classOf n) (r .page) (r .kind)) (taken b x p i u (valuesIn c) .identification)
-      ∙ record-body b x p i u (detailsIn c) (chosen-in c)
+-- ---- accepted frames
 
-  pub read-legal : x < 2 → p < 2 → Legal (recordIn x p (wordBytes w))
-  read-legal hx hp =
-      let c = wordBytes w in
-      let r = recordIn x p c in
-      let b = bodyIn c in
-      let i = identificationIn c in
-      let u = fieldAt c 19 2 in
-      let vs = valuesIn c in
-      let y = taken b x p i u vs in
-      let f = record-fit b x p i u vs hx hp (value-take-lt 3 (drop 21 (bits c))) (value-take-lt 2 (drop 19 (bits c))) (fit-unpackSegments (layout b) (detailsIn c)) in
-      sound-legal r
-      (record {
-        known = ap (λ (n : ℕ). isUndefined (classOf n)) (y .identification) ∙ t .1 .0;
-        fit = subst (λ (z : Body). Fit (fieldWidths z) (fields r)) (sym same-body) f;
-        limits =
-            ap (λ (z : Body). overLimit z (r .latitude) (r .longitude)) same-body
-            ∙ ap₂ (λ (m n : ℕ). overLimit b m n) (y .latitude) (y .longitude)
-            ∙ t .1 .1 .1 .1 .0;
-      })
+module _ (ed : Edition) where
+  -- a frame that no refusal is given to: its word, the number of places repaired, its pattern, the number of bits that differ from it
+  pub record Judged (f : List ℕ) : Type 0 where
+    pub word : List Bool
+    pub places : ℕ
+    pub pattern : ℕ
+    pub differing : ℕ
+    pub size : length f ≡ 26
+    pub filler : fieldAt f 204 4 ≡ 0
+    pub sync : syncIn f ≡ Fits pattern differing
+    pub code-word : CodeWord word
+    pub repaired : repairOf f ≡ repairedTo word places
+    pub tests : NoneGiven (afterRepair ed (wordBytes word))
 
-  -- B21 to B111
-  read-announced : announced (recordIn x p (wordBytes w)) ≡ take 3 (drop 21 (bits (wordBytes w))) ++ detailsIn (wordBytes w)
-  unfolding announced
-  read-announced =
-      let c = wordBytes w in
-      let lc : length (bits c) ≡ 208 = frame-bits c (length-wordBytes w) in
-      let r = recordIn x p c in
-      let b = bodyIn c in
-      let i = identificationIn c in
-      let u = fieldAt c 19 2 in
-      let vs = valuesIn c in
-      let l = layout b in
-      let fixed = not-false _ (t .1 .1 .1 .0) in
-      ap₂ (λ (n : ℕ) (z : Body). bitsOf 3 n ++ packSegments (layout z) (bodyValues z r)) (taken b x p i u vs .identification) same-body
-      ∙ ap₂ (λ (m : List Bool) (y : List ℕ). m ++ packSegments l y) (part-bits 21 3 (bits c) (omega arith)) (record-values b x p i u vs (fit-unpackSegments l (detailsIn c)))
-      ∙ ap (take 3 (drop 21 (bits c)) ++_) (pack-unpackSegments l (detailsIn c) (length-part 24 88 (bits c) (omega arith) ∙ sym (layout-sum b)) fixed)
+  refusals : List ℕ → List (ℕ × Bool)
+  refusals f = beforeRepair f ++ (4, not (eqb (numberOf (repairOf f)) 0)) ∷ afterRepair ed (repairOf f .word)
 
-  -- B17 to B121
-  read-message : let b = bits (wordBytes w) in
-      messageBits (recordIn x p (wordBytes w))
-      ≡ take 2 (drop 17 b) ++ (take 2 (drop 19 b) ++ ((take 3 (drop 21 b) ++ detailsIn (wordBytes w)) ++ take 10 (drop 112 b)))
-  unfolding messageBits
-  read-message =
-      let c = wordBytes w in
-      let lc : length (bits c) ≡ 208 = frame-bits c (length-wordBytes w) in
-      let r = recordIn x p c in
-      let b = bodyIn c in
-      let cl = classIn c in
-      let i = identificationIn c in
-      let s = fieldAt c 17 2 in
-      let u = fieldAt c 19 2 in
-      let vs = valuesIn c in
-      let cover = take 3 (drop 21 (bits c)) ++ detailsIn c in
-      let class : classOf (r .identification) ≡ cl = ap classOf (taken b x p i u vs .identification) in
-      let flags = and-eq-true-iff (eqb s (startEndOf cl)) (eqb u (updateOf cl u)) .0 (not-false _ (t .1 .1 .0)) in
-      let start : startEndOf (classOf (r .identification)) ≡ s = ap startEndOf class ∙ sym (eqb-true s (startEndOf cl) (flags .0)) in
-      let update : updateOf (classOf (r .identification)) (r .update) ≡ u =
-      ap₂ updateOf class (taken b x p i u vs .update)
-      ∙ update-again b u (chosen cl (fieldAt c 55 1) (fieldAt c 67 1)) (t .1 .0) (eqb-true u (updateOf cl u) (flags .1)) in
-      let number : fieldAt c 112 10 ≡ crc10Of (take 91 (drop 21 (bits c))) = eqb-true (fieldAt c 112 10) (crc10Of (take 91 (drop 21 (bits c)))) (not-false _ (t .0)) in
-      let check : crc10 (announced r) ≡ take 10 (drop 112 (bits c)) =
-      ap crc10 (read-announced ∙ sym (part-split 21 3 88 (bits c)))
-      ∙ sym (crc10-bits (take 91 (drop 21 (bits c)))) ∙ ap (bitsOf 10) (sym number) ∙ part-bits 112 10 (bits c) (omega arith) in
-      ap₂ (λ (m n : ℕ). bitsOf 2 m ++ (bitsOf 2 n ++ (announced r ++ crc10 (announced r)))) start update
-      ∙ ap₂ (λ (m n : List Bool). m ++ (n ++ (announced r ++ crc10 (announced r)))) (part-bits 17 2 (bits c) (omega arith)) (part-bits 19 2 (bits c) (omega arith))
-      ∙ ap₂ (λ (m n : List Bool). take 2 (drop 17 (bits c)) ++ (take 2 (drop 19 (bits c)) ++ (m ++ n))) read-announced check
+  pub accepted-judged : (f : List ℕ) → frameRefusal ed f ≡ 0 → Judged f
+  unfolding frameRefusal refusals
+  accepted-judged f e =
+      let h = refusal-none (refusals f) refl e in
+      let size = eqb-true (length f) 26 (not-false (eqb (length f) 26) (h .0)) in
+      let number = eqb-true (numberOf (repairOf f)) 0 (not-false (eqb (numberOf (repairOf f)) 0) (h .1 .1 .1 .0)) in
+      go size number (h .1 .0) (h .1 .1 .0) (h .1 .1 .1 .1) (nearest (protected f) (length-protected f size))
+    where
+      go : length f ≡ 26 → numberOf (repairOf f) ≡ 0 → not (eqb (fieldAt f 204 4) 0) ≡ false → not (eqb (syncNumber (syncIn f)) 0) ≡ false
+          → NoneGiven (afterRepair ed (repairOf f .word)) → Nearest (protected f) → Judged f
+      go size number filler pattern tests (one c k d) =
+          let e = repair-found f size c k d in
+          record {
+            word = c;
+            places = dist (protected f) c;
+            pattern = fittingPattern (syncIn f);
+            differing = fittingDiffering (syncIn f);
+            size = size;
+            filler = eqb-true (fieldAt f 204 4) 0 (not-false (eqb (fieldAt f 204 4) 0) filler);
+            sync = fitting (syncIn f) (eqb-true (syncNumber (syncIn f)) 0 (not-false (eqb (syncNumber (syncIn f)) 0) pattern));
+            code-word = k;
+            repaired = e;
+            tests = subst (λ (a : Answer). NoneGiven (afterRepair ed (a .word))) e tests;
+          }
+      go size number filler pattern tests (none n) =
+          let z : _≡_ {A = ℕ} 4 0 = sym (ap numberOf (repair-none f size n)) ∙ number in absurd (omega arith)
 
-  -- the word that was read, written again
-  pub read-word : wordOf (recordIn x p (wordBytes w)) ≡ w
-  read-word =
-      let c = wordBytes w in
-      let lc : length (bits c) ≡ 208 = frame-bits c (length-wordBytes w) in
-      let m = messageBits (recordIn x p c) in
-      let b = bits c in
-      let s = take 2 (drop 17 b) in
-      let u = take 2 (drop 19 b) in
-      let a = take 3 (drop 21 b) ++ detailsIn c in
-      let check = take 10 (drop 112 b) in
-      let q = take 82 (drop 122 b) in
-      let shape : w ≡ m ++ q =
-      sym (protected-wordBytes w (length-word w k)) ∙ word-split c (length-wordBytes w)
-      ∙ sym (regroup s u a check q)
-      ∙ ap (_++ q) (sym read-message) in
-      let parity : q ≡ parityOf m =
-      parity-only m (length-message (recordIn x p c)) q (length-part 122 82 b (omega arith)) (subst CodeWord shape k) in
-      sym (shape ∙ ap (m ++_) parity)
+  -- a frame whose word is repaired is judged by the repaired word
+  pub repaired-refusal : (f : List ℕ) (w : List Bool) (n : ℕ) → length f ≡ 26 → fieldAt f 204 4 ≡ 0 → syncNumber (syncIn f) ≡ 0 → repairOf f ≡ repairedTo w n
+      → frameRefusal ed f ≡ firstRefusal (afterRepair ed (wordBytes w))
+  unfolding frameRefusal
+  repaired-refusal f w n size filler pattern e =
+      refusal-later 1 _ (ap not (eq-eqb (length f) 26 size))
+      ∙ refusal-later 2 _ (ap not (eq-eqb (fieldAt f 204 4) 0 filler))
+      ∙ refusal-later 3 _ (ap not (eq-eqb (syncNumber (syncIn f)) 0 pattern))
+      ∙ refusal-later 4 _ (ap (λ (a : Answer). not (eqb (numberOf a) 0)) e)
+      ∙ ap (λ (a : Answer). firstRefusal (afterRepair ed (a .word))) e
+
+  module _ (f : List ℕ) (j : Judged f) where
+    pub judged-accepted : frameRefusal ed f ≡ 0
+    judged-accepted = repaired-refusal f (j .word) (j .places) (j .size) (j .filler) (ap syncNumber (j .sync)) (j .repaired) ∙ none-refusal (afterRepair ed (wordBytes (j .word))) (j .tests)
+
+    pub judged-places : placesIn ed f ≡ j .places
+    unfolding placesIn
+    judged-places = rw (judged-accepted, j .repaired)
+
+    judged-damage : _≡_ {A = Damage} (damageIn ed f) (record { repaired = j .places; differing = j .differing })
+    judged-damage = ap₂ (λ (m n : ℕ). record { repaired = m; differing = n }) judged-places (ap fittingDiffering (j .sync))
+
+    pub judged-read : readOf ed f
+        ≡ Accepted (recordIn ed (fieldAt f 0 1) (j .pattern) (wordBytes (j .word))) (record { repaired = j .places; differing = j .differing })
+    unfolding readOf
+    judged-read =
+        rw judged-accepted
+        (ap₂ Accepted (ap₂ (λ (p : ℕ) (a : Answer). recordIn ed (fieldAt f 0 1) p (a .word)) (ap fittingPattern (j .sync)) (j .repaired)) judged-damage)
+
+    -- the word differs from the received bits in as many places, at most eight
+    pub judged-dist : (j .places ≡ dist (protected f) (j .word)) × (j .places ≤ 8)
+    judged-dist = go (nearest (protected f) (length-protected f (j .size)))
+      where
+        go : Nearest (protected f) → (j .places ≡ dist (protected f) (j .word)) × (j .places ≤ 8)
+        go (one c k d) =
+            let w = j .word in
+            let same = same-answer c w (dist (protected f) c) (j .places) (sym (repair-found f (j .size) c k d) ∙ j .repaired) in
+            let n : dist (protected f) c ≡ j .places = same .0 in
+            let e : c ≡ w = sym (protected-wordBytes c (length-word c k)) ∙ ap protected (same .1) ∙ protected-wordBytes w (length-word w (j .code-word)) in
+            (sym n ∙ ap (dist (protected f)) e, omega arith)
+        go (none n) =
+            let z : _≡_ {A = ℕ} 4 0 = ap numberOf (sym (repair-none f (j .size) n) ∙ j .repaired) in absurd (omega arith)
+
+  -- ---- the record that is read
+
+  -- the body is chosen by what stands in the details
+  chosen-in : (c : List ℕ) → Chosen (classIn ed c) (value (take 1 (drop 31 (detailsIn c)))) (value (take 1 (drop 43 (detailsIn c)))) (bodyIn ed c)
+  chosen-in c =
+      rw (inner-part 1 31 88 24 (bits c) (omega arith), inner-part 1 43 88 24 (bits c) (omega arith)) (chosen (classIn ed c) (fieldAt c 55 1) (fieldAt c 67 1))
+
+  module _ (w : List Bool) (k : CodeWord w) (t : NoneGiven (afterRepair ed (wordBytes w))) (x p : ℕ) where
+    same-body : recordBody ed (recordIn ed x p (wordBytes w)) ≡ bodyIn ed (wordBytes w)
+    same-body =
+        let c = wordBytes w in
+        let r = recordIn ed x p c in
+        let b = bodyIn ed c in
+        let i = identificationIn c in
+        let u = fieldAt c 19 2 in
+        ap (λ (n : ℕ). bodyOf (classOf ed n) (r .page) (r .kind)) (taken b x p i u (valuesIn ed c) .identification)
+        ∙ record-body b x p i u (detailsIn c) (chosen-in c)
+
+    pub read-legal : x < 2 → p < 2 → Legal ed (recordIn ed x p (wordBytes w))
+    read-legal hx hp =
+        let c = wordBytes w in
+        let r = recordIn ed x p c in
+        let b = bodyIn ed c in
+        let i = identificationIn c in
+        let u = fieldAt c 19 2 in
+        let vs = valuesIn ed c in
+        let y = taken b x p i u vs in
+        let f = record-fit b x p i u vs hx hp (value-take-lt 3 (drop 21 (bits c))) (value-take-lt 2 (drop 19 (bits c))) (fit-unpackSegments (layout b) (detailsIn c)) in
+        sound-legal ed r
+        (record {
+          known = ap (λ (n : ℕ). isUndefined (classOf ed n)) (y .identification) ∙ t .1 .0;
+          fit = subst (λ (z : Body). Fit (fieldWidths z) (fields r)) (sym same-body) f;
+          limits =
+              ap (λ (z : Body). overLimit z (r .latitude) (r .longitude)) same-body
+              ∙ ap₂ (λ (m n : ℕ). overLimit b m n) (y .latitude) (y .longitude)
+              ∙ t .1 .1 .1 .1 .0;
+        })
+
+    -- B21 to B111
+    read-announced : announced ed (recordIn ed x p (wordBytes w)) ≡ take 3 (drop 21 (bits (wordBytes w))) ++ detailsIn (wordBytes w)
+    unfolding announced
+    read-announced =
+        let c = wordBytes w in
+        let lc : length (bits c) ≡ 208 = frame-bits c (length-wordBytes w) in
+        let r = recordIn ed x p c in
+        let b = bodyIn ed c in
+        let i = identificationIn c in
+        let u = fieldAt c 19 2 in
+        let vs = valuesIn ed c in
+        let l = layout b in
+        let fixed = not-false _ (t .1 .1 .1 .0) in
+        ap₂ (λ (n : ℕ) (z : Body). bitsOf 3 n ++ packSegments (layout z) (bodyValues z r)) (taken b x p i u vs .identification) same-body
+        ∙ ap₂ (λ (m : List Bool) (y : List ℕ). m ++ packSegments l y) (part-bits 21 3 (bits c) (omega arith)) (record-values b x p i u vs (fit-unpackSegments l (detailsIn c)))
+        ∙ ap (take 3 (drop 21 (bits c)) ++_) (pack-unpackSegments l (detailsIn c) (length-part 24 88 (bits c) (omega arith) ∙ sym (layout-sum b)) fixed)
+
+    -- B17 to B121
+    read-message : let b = bits (wordBytes w) in
+        messageBits ed (recordIn ed x p (wordBytes w))
+        ≡ take 2 (drop 17 b) ++ (take 2 (drop 19 b) ++ ((take 3 (drop 21 b) ++ detailsIn (wordBytes w)) ++ take 10 (drop 112 b)))
+    unfolding messageBits
+    read-message =
+        let c = wordBytes w in
+        let lc : length (bits c) ≡ 208 = frame-bits c (length-wordBytes w) in
+        let r = recordIn ed x p c in
+        let b = bodyIn ed c in
+        let cl = classIn ed c in
+        let i = identificationIn c in
+        let s = fieldAt c 17 2 in
+        let u = fieldAt c 19 2 in
+        let vs = valuesIn ed c in
+        let cover = take 3 (drop 21 (bits c)) ++ detailsIn c in
+        let class : classOf ed (r .identification) ≡ cl = ap (classOf ed) (taken b x p i u vs .identification) in
+        let flags = and-eq-true-iff (eqb s (startEndOf cl)) (eqb u (updateOf cl u)) .0 (not-false _ (t .1 .1 .0)) in
+        let start : startEndOf (classOf ed (r .identification)) ≡ s = ap startEndOf class ∙ sym (eqb-true s (startEndOf cl) (flags .0)) in
+        let update : updateOf (classOf ed (r .identification)) (r .update) ≡ u =
+        ap₂ updateOf class (taken b x p i u vs .update)
+        ∙ update-again b u (chosen cl (fieldAt c 55 1) (fieldAt c 67 1)) (t .1 .0) (eqb-true u (updateOf cl u) (flags .1)) in
+        let number : fieldAt c 112 10 ≡ crc10Of (take 91 (drop 21 (bits c))) = eqb-true (fieldAt c 112 10) (crc10Of (take 91 (drop 21 (bits c)))) (not-false _ (t .0)) in
+        let check : crc10 (announced ed r) ≡ take 10 (drop 112 (bits c)) =
+        ap crc10 (read-announced ∙ sym (part-split 21 3 88 (bits c)))
+        ∙ sym (crc10-bits (take 91 (drop 21 (bits c)))) ∙ ap (bitsOf 10) (sym number) ∙ part-bits 112 10 (bits c) (omega arith) in
+        ap₂ (λ (m n : ℕ). bitsOf 2 m ++ (bitsOf 2 n ++ (announced ed r ++ crc10 (announced ed r)))) start update
+        ∙ ap₂ (λ (m n : List Bool). m ++ (n ++ (announced ed r ++ crc10 (announced ed r)))) (part-bits 17 2 (bits c) (omega arith)) (part-bits 19 2 (bits c) (omega arith))
+        ∙ ap₂ (λ (m n : List Bool). take 2 (drop 17 (bits c)) ++ (take 2 (drop 19 (bits c)) ++ (m ++ n))) read-announced check
+
+    -- the word that was read, written again
+    pub read-word : wordOf ed (recordIn ed x p (wordBytes w)) ≡ w
+    read-word =
+        let c = wordBytes w in
+        let lc : length (bits c) ≡ 208 = frame-bits c (length-wordBytes w) in
+        let m = messageBits ed (recordIn ed x p c) in
+        let b = bits c in
+        let s = take 2 (drop 17 b) in
+        let u = take 2 (drop 19 b) in
+        let a = take 3 (drop 21 b) ++ detailsIn c in
+        let check = take 10 (drop 112 b) in
+        let q = take 82 (drop 122 b) in
+        let shape : w ≡ m ++ q =
+        sym (protected-wordBytes w (length-word w k)) ∙ word-split c (length-wordBytes w)
+        ∙ sym (regroup s u a check q)
+        ∙ ap (_++ q) (sym read-message) in
+        let parity : q ≡ parityOf m =
+        parity-only m (length-message ed (recordIn ed x p c)) q (length-part 122 82 b (omega arith)) (subst CodeWord shape k) in
+        sym (shape ∙ ap (m ++_) parity)

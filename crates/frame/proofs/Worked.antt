@@ -25,6 +25,7 @@ use Rattle.frame.specs.Area.{warnedIn}
 use Rattle.frame.specs.Read.{beforeRepair, afterRepair, frameRefusal, readOf}
 use Rattle.frame.specs.Write.{Legal, recordRefusal, frameOf}
 use Rattle.frame.specs.Worked.{AtLatitude, atLatitude, Worked, areaRecord}
+use Rattle.frame.specs.declared.Edition.the-variants.{First}
 use Rattle.frame.specs.declared.Class.{Class}
 use Rattle.frame.specs.declared.Body.{Body}
 use Rattle.frame.specs.declared.Body.the-variants.{PlacePage}
@@ -39,45 +40,45 @@ place-known : {c : Class} {p k : ℕ} → Chosen c p k PlacePage → isUndefined
 place-known (place e n) = refl
 
 module _ (n : ℕ) (r : Record) (a : AtLatitude n r) where
-  known : isUndefined (classOf (r .identification)) ≡ false
-  known = place-known (subst (Chosen (classOf (r .identification)) (r .page) (r .kind)) (a .body) (chosen (classOf (r .identification)) (r .page) (r .kind)))
+  known : isUndefined (classOf First (r .identification)) ≡ false
+  known = place-known (subst (Chosen (classOf First (r .identification)) (r .page) (r .kind)) (a .body) (chosen (classOf First (r .identification)) (r .page) (r .kind)))
 
-  fit : Fit (fieldWidths (recordBody r)) (fields r)
-  fit = fitb-fit (fieldWidths (recordBody r)) (fields r) (not-false (fitb (fieldWidths (recordBody r)) (fields r)) (a .fit))
+  fit : Fit (fieldWidths (recordBody First r)) (fields r)
+  fit = fitb-fit (fieldWidths (recordBody First r)) (fields r) (not-false (fitb (fieldWidths (recordBody First r)) (fields r)) (a .fit))
 
   -- only the latitude decides
-  limits : overLimit (recordBody r) (r .latitude) (r .longitude) ≡ (ltb 900 n || false)
+  limits : overLimit (recordBody First r) (r .latitude) (r .longitude) ≡ (ltb 900 n || false)
   limits =
       ap (λ (b : Body). overLimit b (r .latitude) (r .longitude)) (a .body)
       ∙ ap₂ (λ (m : ℕ) (t : Bool). ltb 900 m || t) (a .latitude) (le-ltb 1800 (r .longitude) (a .longitude))
 
-legal : (r : Record) → AtLatitude 900 r → Legal r
-legal r a = sound-legal r (record { known = known 900 r a; fit = fit 900 r a; limits = limits 900 r a })
+legal : (r : Record) → AtLatitude 900 r → Legal First r
+legal r a = sound-legal First r (record { known = known 900 r a; fit = fit 900 r a; limits = limits 900 r a })
 
-not-written : (r : Record) → AtLatitude 901 r → recordRefusal r ≡ 9
+not-written : (r : Record) → AtLatitude 901 r → recordRefusal First r ≡ 9
 unfolding recordRefusal
 not-written r a = refusal-later 6 _ (known 901 r a) ∙ refusal-later 10 _ (a .fit) ∙ refusal-here 9 [] (limits 901 r a)
 
-not-read : (r : Record) → AtLatitude 901 r → readOf (frameOf r) ≡ Refused 9
+not-read : (r : Record) → AtLatitude 901 r → readOf First (frameOf First r) ≡ Refused 9
 not-read r a =
-    let f = frameOf r in
+    let f = frameOf First r in
     let g = fit 901 r a in
-    let o = own-outside r g in
-    let e : frameRefusal f ≡ 9 =
-    repaired-refusal f (wordOf r) 0 (length-frame r) (o .filler) (ap syncNumber (o .sync)) (repair-own r)
-    ∙ found-refusal r g (known 901 r a) ∙ refusal-here 9 [] (limits 901 r a) in
-    refused-read f (λ z. omega arith) ∙ ap Refused e
+    let o = own-outside First r g in
+    let e : frameRefusal First f ≡ 9 =
+    repaired-refusal First f (wordOf First r) 0 (length-frame First r) (o .filler) (ap syncNumber (o .sync)) (repair-own First r)
+    ∙ found-refusal First r g (known 901 r a) ∙ refusal-here 9 [] (limits 901 r a) in
+    refused-read First f (λ z. omega arith) ∙ ap Refused e
 
 some : (n : ℕ) → n < 1024 → AtLatitude n (atLatitude n)
 unfolding atLatitude classOf row layout scatter fieldWidths freeWidths
 some n h = record { body = refl; fit = rw (lt-ltb n 1024 h); longitude = omega arith; latitude = refl }
 
-zero-bytes : readOf (replicate 26 0) ≡ Refused 3
+zero-bytes : readOf First (replicate 26 0) ≡ Refused 3
 unfolding frameRefusal firstRefusal syncOf differingFrom add bits bitsOf odd value digit
 zero-bytes =
     let f : List ℕ = replicate 26 0 in
-    let e : frameRefusal f ≡ 3 = refusal-append-given (beforeRepair f) ((4, not (eqb (numberOf (repairOf f)) 0)) ∷ afterRepair (repairOf f .word)) 3 (omega arith) refl in
-    refused-read f (λ z. omega arith) ∙ ap Refused e
+    let e : frameRefusal First f ≡ 3 = refusal-append-given (beforeRepair f) ((4, not (eqb (numberOf (repairOf f)) 0)) ∷ afterRepair First (repairOf f .word)) 3 (omega arith) refl in
+    refused-read First f (λ z. omega arith) ∙ ap Refused e
 
 all-test : T (below 56 (λ k. warnedIn (areaRecord 0) k))
 unfolding below warnedIn areaRecord odd
@@ -105,13 +106,13 @@ pub worked : Worked
 worked =
     record {
       example8-written = legal;
-      example8-read = λ r a. comes-back r (legal r a);
+      example8-read = λ r a. comes-back First r (legal r a);
       example8-not-written = not-written;
       example8-not-read = not-read;
       example8-some = some;
       example10 = zero-bytes;
-      frame-order = λ f. refl;
-      record-order = λ r. refl;
+      frame-order = λ ed f. refl;
+      record-order = λ ed r. refl;
       all-warned = λ k h. T-true (warnedIn (areaRecord 0) k) (below-at 56 (λ k. warnedIn (areaRecord 0) k) all-test k h);
       tokyo-warned = tokyo;
       others-not = others-not;

@@ -66,3 +66,7 @@ occurred = held 16 10
 
 abbrev pub broadcaster : Entry
 broadcaster = held 17 11
+
+-- 対象地域情報, the last 57 bits of area safety information
+abbrev pub region : Entry
+region = held 18 57

@@ -7,19 +7,20 @@ use lib.ListN.{getD, set, replicate}
 use Rattle.bits.specs.Layout.{fitb}
 use Rattle.bits.specs.Segment.{freeWidths}
 use Rattle.frame.specs.Identification.{classOf}
+use Rattle.frame.specs.declared.Edition.{Edition}
 use Rattle.frame.specs.declared.Body.{Body}
-use Rattle.frame.specs.declared.Body.the-variants.{AreaPage, PlacePage, CancelPage, NoInformation}
+use Rattle.frame.specs.declared.Body.the-variants.{AreaPage, PlacePage, CancelPage, SafetyInformation, NoInformation}
 use Rattle.frame.specs.Body.{bodyOf, layout, indices, ownUpdate}
 use Rattle.frame.specs.declared.Record.{Record}
 
 -- how many fields a record has
 abbrev pub fieldCount : ℕ
-fieldCount = 18
+fieldCount = 19
 
 abbrev pub fields : Record → List ℕ
 fields r =
     r .reference ∷ r .pattern ∷ r .identification ∷ r .update ∷ r .time ∷ r .page ∷ r .areas ∷ r .total ∷ r .item ∷ r .number ∷ r .kind ∷ r .south ∷ r .latitude
-    ∷ r .west ∷ r .longitude ∷ r .depth ∷ r .occurred ∷ r .broadcaster ∷ []
+    ∷ r .west ∷ r .longitude ∷ r .depth ∷ r .occurred ∷ r .broadcaster ∷ r .region ∷ []
 
 -- the record that has these fields
 unfoldable pub recordFrom : List ℕ → Record
@@ -43,6 +44,7 @@ recordFrom v =
       depth = getD v 15 0;
       occurred = getD v 16 0;
       broadcaster = getD v 17 0;
+      region = getD v 18 0;
     }
 
 -- the elements of f at the indices ks
@@ -76,17 +78,18 @@ bodyValues b r = gather (indices b) (fields r)
 unfoldable pub recordOf : Body → (reference pattern identification update : ℕ) → List ℕ → Record
 recordOf b x p i u us = recordFrom (inFields b x p i u us)
 
--- the body that a record has
-abbrev pub recordBody : Record → Body
-recordBody r = bodyOf (classOf (r .identification)) (r .page) (r .kind)
+-- the body that a record has, by the edition named
+abbrev pub recordBody : Edition → Record → Body
+recordBody ed r = bodyOf (classOf ed (r .identification)) (r .page) (r .kind)
 
 -- a field is wider than its place, or not 0 where none is left free
-abbrev pub tooWide : Record → Bool
-tooWide r = not (fitb (fieldWidths (recordBody r)) (fields r))
+abbrev pub tooWide : Edition → Record → Bool
+tooWide ed r = not (fitb (fieldWidths (recordBody ed r)) (fields r))
 
 -- page 1, kind 0: latitude or longitude is over its limit, in tenths of a degree
 abbrev pub overLimit : Body → (latitude longitude : ℕ) → Bool
 overLimit AreaPage latitude longitude = false
 overLimit PlacePage latitude longitude = ltb 900 latitude || ltb 1800 longitude
 overLimit CancelPage latitude longitude = false
+overLimit SafetyInformation latitude longitude = false
 overLimit NoInformation latitude longitude = false

@@ -1,4 +1,4 @@
--- Judging and reading a frame (document 01, "When the box says no"; document 02, e). Assumes nothing.
+-- Judging and reading a frame (document 01, "When the box says no"; document 02, a) and e), by the edition named. Assumes nothing.
 use mathlib.Core.Bool.{Bool, cond, not}
 use mathlib.Core.List.{List, [], _∷_, _++_}
 use Prim.Native.Nat.{ℕ}
@@ -16,6 +16,7 @@ use Rattle.sync_pattern.specs.declared.Sync.{Sync}
 use Rattle.frame.specs.Identification.{classOf, flagsWrong, isUndefined}
 use Rattle.frame.specs.Body.{bodyOf, layout}
 use Rattle.frame.specs.Fields.{fields, overLimit, recordOf}
+use Rattle.frame.specs.declared.Edition.{Edition}
 use Rattle.frame.specs.declared.Class.{Class}
 use Rattle.frame.specs.declared.Body.{Body}
 use Rattle.frame.specs.declared.Record.{Record}
@@ -30,23 +31,23 @@ use Rattle.frame.specs.declared.Reading.the-variants.{Accepted, Refused}
 abbrev pub identificationIn : List ℕ → ℕ
 identificationIn c = fieldAt c 21 3
 
-abbrev pub classIn : List ℕ → Class
-classIn c = classOf (identificationIn c)
+abbrev pub classIn : Edition → List ℕ → Class
+classIn ed c = classOf ed (identificationIn c)
 
-abbrev pub bodyIn : List ℕ → Body
-bodyIn c = bodyOf (classIn c) (fieldAt c 55 1) (fieldAt c 67 1)
+abbrev pub bodyIn : Edition → List ℕ → Body
+bodyIn ed c = bodyOf (classIn ed c) (fieldAt c 55 1) (fieldAt c 67 1)
 
 -- B24 to B111
 abbrev pub detailsIn : List ℕ → List Bool
 detailsIn c = take 88 (drop 24 (bits c))
 
 -- the values of the body's fields
-abbrev pub valuesIn : List ℕ → List ℕ
-valuesIn c = unpackSegments (layout (bodyIn c)) (detailsIn c)
+abbrev pub valuesIn : Edition → List ℕ → List ℕ
+valuesIn ed c = unpackSegments (layout (bodyIn ed c)) (detailsIn c)
 
 -- the record, with the reference and the pattern, which the code does not protect
-abbrev pub recordIn : (reference pattern : ℕ) → List ℕ → Record
-recordIn b p c = recordOf (bodyIn c) b p (identificationIn c) (fieldAt c 19 2) (valuesIn c)
+abbrev pub recordIn : Edition → (reference pattern : ℕ) → List ℕ → Record
+recordIn ed b p c = recordOf (bodyIn ed c) b p (identificationIn c) (fieldAt c 19 2) (valuesIn ed c)
 
 -- ---- the synchronising bits
 
@@ -69,44 +70,44 @@ beforeRepair f =
     ∷ []
 
 -- after it: the CRC, the identification, start/end and update, the bits fixed at 1, the house limits
-abbrev pub afterRepair : List ℕ → List (ℕ × Bool)
-afterRepair c =
+abbrev pub afterRepair : Edition → List ℕ → List (ℕ × Bool)
+afterRepair ed c =
     (5, not (eqb (fieldAt c 112 10) (crc10Of (take 91 (drop 21 (bits c))))))
-    ∷ (6, isUndefined (classIn c))
-    ∷ (7, flagsWrong (classIn c) (fieldAt c 17 2) (fieldAt c 19 2))
-    ∷ (8, not (fixedBitsHold (layout (bodyIn c)) (detailsIn c)))
-    ∷ (9, overLimit (bodyIn c) (recordIn 0 0 c .latitude) (recordIn 0 0 c .longitude))
+    ∷ (6, isUndefined (classIn ed c))
+    ∷ (7, flagsWrong (classIn ed c) (fieldAt c 17 2) (fieldAt c 19 2))
+    ∷ (8, not (fixedBitsHold (layout (bodyIn ed c)) (detailsIn c)))
+    ∷ (9, overLimit (bodyIn ed c) (recordIn ed 0 0 c .latitude) (recordIn ed 0 0 c .longitude))
     ∷ []
 
 -- 1 to 9: the repair gives 4 or nothing, since the frame has 26 bytes by then
-abbrev pub frameTests : List ℕ → List (ℕ × Bool)
-frameTests f = beforeRepair f ++ (4, not (eqb (numberOf (repairOf f)) 0)) ∷ afterRepair (repairOf f .word)
+abbrev pub frameTests : Edition → List ℕ → List (ℕ × Bool)
+frameTests ed f = beforeRepair f ++ (4, not (eqb (numberOf (repairOf f)) 0)) ∷ afterRepair ed (repairOf f .word)
 
-unfoldable pub frameRefusal : List ℕ → ℕ
-frameRefusal f = firstRefusal (frameTests f)
+unfoldable pub frameRefusal : Edition → List ℕ → ℕ
+frameRefusal ed f = firstRefusal (frameTests ed f)
 
 -- the number of repaired places of an accepted frame, 0 of another
-unfoldable pub placesIn : List ℕ → ℕ
-placesIn f = cond (eqb (frameRefusal f) 0) (placesOf (repairOf f)) 0
+unfoldable pub placesIn : Edition → List ℕ → ℕ
+placesIn ed f = cond (eqb (frameRefusal ed f) 0) (placesOf (repairOf f)) 0
 
 -- nothing repaired, and no bit that differed
 abbrev pub noDamage : Damage
 noDamage = record { repaired = 0; differing = 0 }
 
 -- what was damaged in an accepted frame: the repaired places, and beside them the bits that differed from the pattern; it is not asked of a refused one
-abbrev pub damageIn : List ℕ → Damage
-damageIn f = record { repaired = placesIn f; differing = fittingDiffering (syncIn f) }
+abbrev pub damageIn : Edition → List ℕ → Damage
+damageIn ed f = record { repaired = placesIn ed f; differing = fittingDiffering (syncIn f) }
 
 -- what `judge` answers
-unfoldable pub judgeOf : List ℕ → Verdict
-judgeOf f = record { number = frameRefusal f; repaired = placesIn f }
+unfoldable pub judgeOf : Edition → List ℕ → Verdict
+judgeOf ed f = record { number = frameRefusal ed f; repaired = placesIn ed f }
 
 -- what `read` answers
-unfoldable pub readOf : List ℕ → Reading
-readOf f =
-    cond (eqb (frameRefusal f) 0)
-    (Accepted (recordIn (fieldAt f 0 1) (fittingPattern (syncIn f)) (repairOf f .word)) (damageIn f))
-    (Refused (frameRefusal f))
+unfoldable pub readOf : Edition → List ℕ → Reading
+readOf ed f =
+    cond (eqb (frameRefusal ed f) 0)
+    (Accepted (recordIn ed (fieldAt f 0 1) (fittingPattern (syncIn f)) (repairOf f .word)) (damageIn ed f))
+    (Refused (frameRefusal ed f))
 
 -- the documents' number and values of a reading: 0 with the repaired places, the differing bits and the record, or the refusal's number and nothing else
 abbrev pub readingNumber : Reading → ℕ
@@ -133,5 +134,5 @@ cleanOf f =
     (bitsOf 1 (fieldAt f 0 1) ++ (patternBits (fittingPattern (syncIn f)) ++ (protected (repairOf f .word) ++ zeros 4)))
 
 -- what `clean` answers: the refusal's number, and the frame with its damage repaired, or 26 zeros where it is refused
-unfoldable pub cleanedOf : List ℕ → Cleaned
-cleanedOf f = record { number = frameRefusal f; frame = cond (eqb (frameRefusal f) 0) (cleanOf f) (replicate 26 0) }
+unfoldable pub cleanedOf : Edition → List ℕ → Cleaned
+cleanedOf ed f = record { number = frameRefusal ed f; frame = cond (eqb (frameRefusal ed f) 0) (cleanOf f) (replicate 26 0) }

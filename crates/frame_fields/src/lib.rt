@@ -28,6 +28,7 @@ pub fn fields_of(contents: Record) -> [u64; FIELDS]
         contents.depth,
         contents.occurred,
         contents.broadcaster,
+        contents.region,
     ]
 }
 
@@ -55,5 +56,6 @@ pub fn record_of(v: &[u64]) -> Record
         depth: v[15],
         occurred: v[16],
         broadcaster: v[17],
+        region: v[18],
     }
 }

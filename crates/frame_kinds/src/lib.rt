@@ -1,15 +1,17 @@
-// What an identification announces, which body the details have, and which areas a record warns.
+// What an identification announces by the edition named, which body the details have, and which areas a record warns.
 ghost use mathlib.Core.Path.{_≡_};
-ghost use Rattle.frame.specs.Identification.{classOf, flagsWrong, isUndefined};
+ghost use Rattle.frame.specs.Identification.{schedule1, classOf, flagsWrong, isUndefined};
 ghost use Rattle.frame.specs.Body.{bodyOf};
 ghost use Rattle.frame.specs.Fields.{overLimit};
 ghost use Rattle.frame.specs.Area.{warnedIn};
 use frame::Body;
 use frame::Class;
+use frame::Edition;
 use frame::Record;
 
-pub fn class_of(identification: u64) -> Class
-    ensures { λ r. ⌜ r ≡ classOf identification ⌝ }
+// What an identification announces in every edition, where it is not 5 or 6.
+fn schedule1(identification: u64) -> Class
+    ensures { λ r. ⌜ r ≡ schedule1 identification ⌝ }
 {
     if identification <= 3 {
         return Class::Warning;
@@ -18,6 +20,23 @@ pub fn class_of(identification: u64) -> Class
         return Class::Silent;
     }
     Class::Undefined
+}
+
+pub fn class_of(edition: Edition, identification: u64) -> Class
+    ensures { λ r. ⌜ r ≡ classOf edition identification ⌝ }
+{
+    match edition {
+        Edition::First => schedule1(identification),
+        Edition::AreaSafety => {
+            if identification == 5 {
+                return Class::Safety;
+            }
+            if identification == 6 {
+                return Class::Safety;
+            }
+            schedule1(identification)
+        }
+    }
 }
 
 pub fn body_of(class: Class, page: u64, kind: u64) -> Body
@@ -33,6 +52,7 @@ pub fn body_of(class: Class, page: u64, kind: u64) -> Body
             }
             Body::PlacePage
         }
+        Class::Safety => Body::SafetyInformation,
         Class::Silent => Body::NoInformation,
         Class::Undefined => Body::NoInformation,
     }
@@ -43,6 +63,7 @@ pub fn is_undefined(class: Class) -> bool
 {
     match class {
         Class::Warning => false,
+        Class::Safety => false,
         Class::Silent => false,
         Class::Undefined => true,
     }
@@ -54,6 +75,7 @@ pub fn flags_wrong(class: Class, start: u64, update: u64) -> bool
 {
     match class {
         Class::Warning => start != 0,
+        Class::Safety => start != 0,
         Class::Silent => {
             if start != 3 {
                 return true;
@@ -77,6 +99,7 @@ pub fn over_limit(body: Body, latitude: u64, longitude: u64) -> bool
             1800 < longitude
         }
         Body::CancelPage => false,
+        Body::SafetyInformation => false,
         Body::NoInformation => false,
     }
 }

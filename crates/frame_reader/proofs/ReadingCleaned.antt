@@ -20,6 +20,7 @@ use Rattle.sync_pattern.specs.Pattern.{patternWord, fittingPattern}
 use Rattle.frame.specs.Read.{syncIn, frameRefusal, readOf, cleanOf}
 use Rattle.frame_reader.specs.Examined.{examinedOf}
 use Rattle.frame.specs.Read.{cleanedOf}
+use Rattle.frame.specs.declared.Edition.{Edition}
 use Rattle.frame.specs.declared.Record.{Record}
 use Rattle.frame.specs.declared.Damage.{Damage}
 use Rattle.frame_reader.specs.declared.Examined.{Examined}
@@ -43,54 +44,55 @@ put-front w x y h =
     ∙ ap (λ b. bytes 26 (paste b 1 (bitsOf 16 y) 16)) first
     ∙ ap (bytes 26) (joined (bits w) x y)
 
--- ---- the word of an accepted frame
+module _ (ed : Edition) where
+  -- ---- the word of an accepted frame
 
-module _ (f : List ℕ) (e : frameRefusal f ≡ 0) where
-  untouched : (length f ≡ 26) × (numberOf (repairOf f) ≡ 0)
-  unfolding frameRefusal
-  untouched =
-      let g = refusal-none _ refl e in
-      (eqb-true (length f) 26 (not-false _ (g .0)), eqb-true (numberOf (repairOf f)) 0 (not-false _ (g .1 .1 .1 .0)))
+  module _ (f : List ℕ) (e : frameRefusal ed f ≡ 0) where
+    untouched : (length f ≡ 26) × (numberOf (repairOf f) ≡ 0)
+    unfolding frameRefusal
+    untouched =
+        let g = refusal-none _ refl e in
+        (eqb-true (length f) 26 (not-false _ (g .0)), eqb-true (numberOf (repairOf f)) 0 (not-false _ (g .1 .1 .1 .0)))
 
-  word-length : length (repairOf f .word) ≡ 26
-  word-length = answered f (λ r. length (r .word) ≡ 26) (λ c n. length-wordBytes c) refl refl
+    word-length : length (repairOf f .word) ≡ 26
+    word-length = answered f (λ r. length (r .word) ≡ 26) (λ c n. length-wordBytes c) refl refl
 
-  after-front : drop 17 (bits (repairOf f .word)) ≡ protected (repairOf f .word) ++ zeros 4
-  after-front = go (nearest (protected f) (length-protected f (untouched .0)))
-    where
-      go : Nearest (protected f) → drop 17 (bits (repairOf f .word)) ≡ protected (repairOf f .word) ++ zeros 4
-      go (one c k d) =
-          let l = length-word c k in
-          rw (repair-found f (untouched .0) c k d, bits-wordBytes c l, protected-wordBytes c l)
-      go (none n) = let z : _≡_ {A = ℕ} 4 0 = sym (ap numberOf (repair-none f (untouched .0) n)) ∙ untouched .1 in absurd (omega arith)
+    after-front : drop 17 (bits (repairOf f .word)) ≡ protected (repairOf f .word) ++ zeros 4
+    after-front = go (nearest (protected f) (length-protected f (untouched .0)))
+      where
+        go : Nearest (protected f) → drop 17 (bits (repairOf f .word)) ≡ protected (repairOf f .word) ++ zeros 4
+        go (one c k d) =
+            let l = length-word c k in
+            rw (repair-found f (untouched .0) c k d, bits-wordBytes c l, protected-wordBytes c l)
+        go (none n) = let z : _≡_ {A = ℕ} 4 0 = sym (ap numberOf (repair-none f (untouched .0) n)) ∙ untouched .1 in absurd (omega arith)
 
-  cleaned-bytes : (r : Record) → r ≡ contentsIn f
-      → putOf (putOf (repairOf f .word) 0 1 (r .reference)) 1 16 (patternWord (r .pattern)) ≡ cleanOf f
-  unfolding cleanOf
-  cleaned-bytes r er =
-      let a : r .reference ≡ fieldAt f 0 1 = ap (λ (k : Record). k .reference) er ∙ taken _ _ _ _ _ _ .reference in
-      let b : r .pattern ≡ fittingPattern (syncIn f) = ap (λ (k : Record). k .pattern) er ∙ taken _ _ _ _ _ _ .pattern in
-      put-front (repairOf f .word) (r .reference) (patternWord (r .pattern)) word-length
-      ∙ rw (a, b, after-front)
+    cleaned-bytes : (r : Record) → r ≡ contentsIn ed f
+        → putOf (putOf (repairOf f .word) 0 1 (r .reference)) 1 16 (patternWord (r .pattern)) ≡ cleanOf f
+    unfolding cleanOf
+    cleaned-bytes r er =
+        let a : r .reference ≡ fieldAt f 0 1 = ap (λ (k : Record). k .reference) er ∙ taken _ _ _ _ _ _ .reference in
+        let b : r .pattern ≡ fittingPattern (syncIn f) = ap (λ (k : Record). k .pattern) er ∙ taken _ _ _ _ _ _ .pattern in
+        put-front (repairOf f .word) (r .reference) (patternWord (r .pattern)) word-length
+        ∙ rw (a, b, after-front)
 
--- ---- what `clean` answers
+  -- ---- what `clean` answers
 
-module _ (f : List ℕ) (x : Examined) (ex : x ≡ examinedOf f) where
-  read-is : x .reading ≡ readOf f
-  unfolding examinedOf
-  read-is = ap (λ (k : Examined). k .reading) ex
+  module _ (f : List ℕ) (x : Examined) (ex : x ≡ examinedOf ed f) where
+    read-is : x .reading ≡ readOf ed f
+    unfolding examinedOf
+    read-is = ap (λ (k : Examined). k .reading) ex
 
-  pub cleaned-refused : (n : ℕ) → x .reading ≡ Refused n → _≡_ {A = Cleaned} (record { number = n; frame = replicate 26 0 }) (cleanedOf f)
-  unfolding cleanedOf
-  cleaned-refused n e = let a = read-refused f n (sym read-is ∙ e) in rw (a .number, ne-eqb n 0 (a .some))
+    pub cleaned-refused : (n : ℕ) → x .reading ≡ Refused n → _≡_ {A = Cleaned} (record { number = n; frame = replicate 26 0 }) (cleanedOf ed f)
+    unfolding cleanedOf
+    cleaned-refused n e = let a = read-refused ed f n (sym read-is ∙ e) in rw (a .number, ne-eqb n 0 (a .some))
 
-  -- s holds the word with the reference put, g the pattern too
-  pub cleaned-accepted : (r : Record) (d : Damage) (s g : List ℕ) (y : ℕ) → x .reading ≡ Accepted r d
-      → s ≡ putOf (x .word) 0 1 (r .reference) → y ≡ patternWord (r .pattern) → g ≡ putOf s 1 16 y
-      → _≡_ {A = Cleaned} (record { number = 0; frame = g }) (cleanedOf f)
-  unfolding cleanedOf examinedOf
-  cleaned-accepted r d s g y e es ey eg =
-      let a = read-accepted f r d (sym read-is ∙ e) in
-      let w : x .word ≡ repairOf f .word = ap (λ (k : Examined). k .word) ex ∙ rw (eq-eqb (frameRefusal f) 0 (a .none)) in
-      let k : g ≡ cleanOf f = eg ∙ rw (es, ey, w) (cleaned-bytes f (a .none) r (a .contents)) in
-      rw (eq-eqb (frameRefusal f) 0 (a .none), a .none) (ap (λ (b : List ℕ). record { number = 0; frame = b }) k)
+    -- s holds the word with the reference put, g the pattern too
+    pub cleaned-accepted : (r : Record) (d : Damage) (s g : List ℕ) (y : ℕ) → x .reading ≡ Accepted r d
+        → s ≡ putOf (x .word) 0 1 (r .reference) → y ≡ patternWord (r .pattern) → g ≡ putOf s 1 16 y
+        → _≡_ {A = Cleaned} (record { number = 0; frame = g }) (cleanedOf ed f)
+    unfolding cleanedOf examinedOf
+    cleaned-accepted r d s g y e es ey eg =
+        let a = read-accepted ed f r d (sym read-is ∙ e) in
+        let w : x .word ≡ repairOf f .word = ap (λ (k : Examined). k .word) ex ∙ rw (eq-eqb (frameRefusal ed f) 0 (a .none)) in
+        let k : g ≡ cleanOf f = eg ∙ rw (es, ey, w) (cleaned-bytes f (a .none) r (a .contents)) in
+        rw (eq-eqb (frameRefusal ed f) 0 (a .none), a .none) (ap (λ (b : List ℕ). record { number = 0; frame = b }) k)

@@ -8,6 +8,7 @@ use Rattle.bits.specs.Refusal.{firstRefusal}
 use Rattle.dsc.specs.Repair.{repairOf}
 use Rattle.frame.specs.Read.{recordIn, afterRepair, frameRefusal, readOf}
 use Rattle.frame_reader.specs.declared.Examined.{Examined}
+use Rattle.frame.specs.declared.Edition.{Edition}
 use Rattle.frame.specs.declared.Record.{Record}
 use Rattle.frame.specs.declared.Damage.{Damage}
 use Rattle.frame.specs.declared.Reading.the-variants.{Accepted, Refused}
@@ -21,9 +22,9 @@ abbrev pub examinedAccepted : Record → Damage → List ℕ → Examined
 examinedAccepted r d c = record { reading = Accepted r d; word = c }
 
 -- the repaired frame c examined; d is what was damaged in the received one
-unfoldable pub wordExamined : (reference pattern : ℕ) → Damage → List ℕ → Examined
-wordExamined x p d c = cond (eqb (firstRefusal (afterRepair c)) 0) (examinedAccepted (recordIn x p c) d c) (examinedRefused (firstRefusal (afterRepair c)))
+unfoldable pub wordExamined : Edition → (reference pattern : ℕ) → Damage → List ℕ → Examined
+wordExamined ed x p d c = cond (eqb (firstRefusal (afterRepair ed c)) 0) (examinedAccepted (recordIn ed x p c) d c) (examinedRefused (firstRefusal (afterRepair ed c)))
 
 -- any bytes examined: what is read, with the repaired frame beside it
-unfoldable pub examinedOf : List ℕ → Examined
-examinedOf f = record { reading = readOf f; word = cond (eqb (frameRefusal f) 0) (repairOf f .word) (replicate 26 0) }
+unfoldable pub examinedOf : Edition → List ℕ → Examined
+examinedOf ed f = record { reading = readOf ed f; word = cond (eqb (frameRefusal ed f) 0) (repairOf f .word) (replicate 26 0) }

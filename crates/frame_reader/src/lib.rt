@@ -1,10 +1,11 @@
-// Reading a frame: the tests in their order, and the record.
+// Reading a frame by the edition named: the tests in their order, and the record.
 ghost use mathlib.Core.Path.{_≡_};
 ghost use Rattle.frame.specs.Read.{readOf, judgeOf, cleanedOf};
 ghost use Rattle.frame_reader.specs.Examined.{examinedRefused, wordExamined, examinedOf};
 use dsc::Outcome;
 use frame::Cleaned;
 use frame::Damage;
+use frame::Edition;
 use frame::Reading;
 use frame::Verdict;
 use frame_refusals::Preamble;
@@ -26,11 +27,17 @@ fn refused(number: u8) -> Examined
 }
 
 // A repaired frame, tested and read.
-fn examine_word(reference: u64, pattern: u64, damage: Damage, word: [u8; 26]) -> Examined
-    ensures { λ r. ⌜ r ≡ wordExamined reference pattern damage word ⌝ }
+fn examine_word(
+    edition: Edition,
+    reference: u64,
+    pattern: u64,
+    damage: Damage,
+    word: [u8; 26],
+) -> Examined
+    ensures { λ r. ⌜ r ≡ wordExamined edition reference pattern damage word ⌝ }
 {
-    let details = frame_refusals::word_details(reference, pattern, &word);
-    let number = frame_refusals::word_refusal(&word, details);
+    let details = frame_refusals::word_details(edition, reference, pattern, &word);
+    let number = frame_refusals::word_refusal(edition, &word, details);
     if number != 0 {
         return refused(number);
     }
@@ -42,8 +49,8 @@ fn examine_word(reference: u64, pattern: u64, damage: Damage, word: [u8; 26]) ->
 }
 
 // Any bytes, tested in the order of the refusals and read.
-fn examine(frame: &[u8]) -> Examined
-    ensures { λ r. ⌜ r ≡ examinedOf (now (frame .entry)) ⌝ }
+fn examine(edition: Edition, frame: &[u8]) -> Examined
+    ensures { λ r. ⌜ r ≡ examinedOf edition (now (frame .entry)) ⌝ }
 {
     match frame_refusals::preamble_of(frame) {
         Preamble::Passed(reference, pattern, differing) => {
@@ -56,7 +63,7 @@ fn examine(frame: &[u8]) -> Examined
                         differing,
                     };
                     let word = answer.word;
-                    examine_word(reference, pattern, damage, word)
+                    examine_word(edition, reference, pattern, damage, word)
                 }
                 // the frame has 26 bytes, so there is no code word within eight places
                 Outcome::Refused(_) => refused(4),
@@ -67,18 +74,18 @@ fn examine(frame: &[u8]) -> Examined
 }
 
 // The record of a frame and what was damaged in it, or the refusal.
-pub fn read(frame: &[u8]) -> Reading
-    ensures { λ r. ⌜ r ≡ readOf (now (frame .entry)) ⌝ }
+pub fn read(edition: Edition, frame: &[u8]) -> Reading
+    ensures { λ r. ⌜ r ≡ readOf edition (now (frame .entry)) ⌝ }
 {
-    let examined = examine(frame);
+    let examined = examine(edition, frame);
     examined.reading
 }
 
 // Whether a frame is accepted: the refusal's number, or 0 with the number of its repaired places.
-pub fn judge(frame: &[u8]) -> Verdict
-    ensures { λ r. ⌜ r ≡ judgeOf (now (frame .entry)) ⌝ }
+pub fn judge(edition: Edition, frame: &[u8]) -> Verdict
+    ensures { λ r. ⌜ r ≡ judgeOf edition (now (frame .entry)) ⌝ }
 {
-    match read(frame) {
+    match read(edition, frame) {
         Reading::Accepted(_, damage) => Verdict {
             number: 0,
             repaired: damage.repaired,
@@ -91,10 +98,10 @@ pub fn judge(frame: &[u8]) -> Verdict
 }
 
 // The frame with its damage repaired, and the pattern's own bits.
-pub fn clean(frame: &[u8]) -> Cleaned
-    ensures { λ r. ⌜ r ≡ cleanedOf (now (frame .entry)) ⌝ }
+pub fn clean(edition: Edition, frame: &[u8]) -> Cleaned
+    ensures { λ r. ⌜ r ≡ cleanedOf edition (now (frame .entry)) ⌝ }
 {
-    let examined = examine(frame);
+    let examined = examine(edition, frame);
     let reading = examined.reading;
     match reading {
         Reading::Accepted(contents, _) => {

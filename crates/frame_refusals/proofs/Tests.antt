@@ -25,6 +25,7 @@ use Rattle.frame.specs.Read.{classIn, bodyIn, detailsIn, recordIn, syncIn, befo
 use Rattle.frame_refusals.specs.Preamble.{preambleOf}
 use Rattle.frame_refusals.specs.Word.{wordDetails, Tells}
 use Rattle.frame_details.specs.Details.{detailsOf}
+use Rattle.frame.specs.declared.Edition.{Edition}
 use Rattle.frame.specs.declared.Class.{Class}
 use Rattle.frame.specs.declared.Body.{Body}
 use Rattle.frame_details.specs.declared.Details.{Details}
@@ -125,80 +126,81 @@ details-bits : (c : List ℕ) → length c ≡ 26 → take 88 (bits (take (lengt
 details-bits c h =
     ap (λ (l : List ℕ). take 88 (bits l)) (take-all (length c - 3) (drop 3 c) (omega (arith, length-drop 3 c))) ∙ ap (take 88) (sym (bits-drop 3 c (omega arith)))
 
-module _ (c : List ℕ) (h : length c ≡ 26) where
-  pub class-in : (i : ℕ) (k : Class) → i ≡ getOf c 21 3 → k ≡ classOf i → k ≡ classIn c
-  class-in i k ei ek = ek ∙ ap classOf (got c 21 3 i h refl ei)
+module _ (ed : Edition) where
+  module _ (c : List ℕ) (h : length c ≡ 26) where
+    pub class-in : (i : ℕ) (k : Class) → i ≡ getOf c 21 3 → k ≡ classOf ed i → k ≡ classIn ed c
+    class-in i k ei ek = ek ∙ ap (classOf ed) (got c 21 3 i h refl ei)
 
-  pub body-in : (i page kind : ℕ) (k : Class) → i ≡ getOf c 21 3 → k ≡ classOf i → page ≡ getOf c 55 1 → kind ≡ getOf c 67 1 → bodyOf k page kind ≡ bodyIn c
-  body-in i page kind k ei ek ep ed = rw (class-in i k ei ek, got c 55 1 page h refl ep, got c 67 1 kind h refl ed)
+    pub body-in : (i page kind : ℕ) (k : Class) → i ≡ getOf c 21 3 → k ≡ classOf ed i → page ≡ getOf c 55 1 → kind ≡ getOf c 67 1 → bodyOf k page kind ≡ bodyIn ed c
+    body-in i page kind k ei ek ep en = rw (class-in i k ei ek, got c 55 1 page h refl ep, got c 67 1 kind h refl en)
 
-  pub details-in : (x p i u : ℕ) (b : Body) (d : Details) → b ≡ bodyIn c → i ≡ getOf c 21 3 → u ≡ getOf c 19 2
-      → d ≡ detailsOf b x p i u (take 88 (bits (take (length c - 3) (drop 3 c)))) → d ≡ wordDetails x p c
-  details-in x p i u b d eb ei eu e =
-      e ∙ rw (eb, got c 21 3 i h refl ei, got c 19 2 u h refl eu, details-bits c h)
+    pub details-in : (x p i u : ℕ) (b : Body) (d : Details) → b ≡ bodyIn ed c → i ≡ getOf c 21 3 → u ≡ getOf c 19 2
+        → d ≡ detailsOf b x p i u (take 88 (bits (take (length c - 3) (drop 3 c)))) → d ≡ wordDetails ed x p c
+    details-in x p i u b d eb ei eu e =
+        e ∙ rw (eb, got c 21 3 i h refl ei, got c 19 2 u h refl eu, details-bits c h)
 
--- ---- what the tests ask of the details
+  -- ---- what the tests ask of the details
 
-pub contents-in : (c : List ℕ) (d : Details) (x p : ℕ) → d ≡ wordDetails x p c → d .contents ≡ recordIn x p c
-unfolding detailsOf
-contents-in c d x p e = ap (λ (k : Details). k .contents) e
+  pub contents-in : (c : List ℕ) (d : Details) (x p : ℕ) → d ≡ wordDetails ed x p c → d .contents ≡ recordIn ed x p c
+  unfolding detailsOf
+  contents-in c d x p e = ap (λ (k : Details). k .contents) e
 
-pub tells : (c : List ℕ) (d : Details) (x p : ℕ) → d ≡ wordDetails x p c → Tells c d
-unfolding detailsOf
-tells c d x p e =
-    record {
-      fixed = ap (λ (k : Details). k .holds) e;
-      latitude = ap (λ (k : Details). k .contents .latitude) e ∙ taken (bodyIn c) x p _ _ _ .latitude;
-      longitude = ap (λ (k : Details). k .contents .longitude) e ∙ taken (bodyIn c) x p _ _ _ .longitude;
-    }
+  pub tells : (c : List ℕ) (d : Details) (x p : ℕ) → d ≡ wordDetails ed x p c → Tells ed c d
+  unfolding detailsOf
+  tells c d x p e =
+      record {
+        fixed = ap (λ (k : Details). k .holds) e;
+        latitude = ap (λ (k : Details). k .contents .latitude) e ∙ taken (bodyIn ed c) x p _ _ _ .latitude;
+        longitude = ap (λ (k : Details). k .contents .longitude) e ∙ taken (bodyIn ed c) x p _ _ _ .longitude;
+      }
 
--- ---- after the repair, each test met or left
+  -- ---- after the repair, each test met or left
 
-module _ (c : List ℕ) (h : length c ≡ 26) (d : Details) (t : Tells c d) (differs : Bool)
-    (e5 : differs ≡ not (eqb (fieldAt c 112 10) (crc10Of (take 91 (drop 21 (bits c)))))) where
-  pub crc-refused : differs ≡ true → 5 ≡ firstRefusal (afterRepair c)
-  crc-refused m = tested (met (sym e5 ∙ m))
+  module _ (c : List ℕ) (h : length c ≡ 26) (d : Details) (t : Tells ed c d) (differs : Bool)
+      (e5 : differs ≡ not (eqb (fieldAt c 112 10) (crc10Of (take 91 (drop 21 (bits c)))))) where
+    pub crc-refused : differs ≡ true → 5 ≡ firstRefusal (afterRepair ed c)
+    crc-refused m = tested (met (sym e5 ∙ m))
 
-  module _ (z5 : differs ≡ false) (i : ℕ) (k : Class) (undefined : Bool) (ei : i ≡ getOf c 21 3) (ek : k ≡ classOf i) (e6 : undefined ≡ isUndefined k) where
-    past-crc : {n : ℕ} → Tested (drop 1 (afterRepair c)) n → n ≡ firstRefusal (afterRepair c)
-    past-crc a = tested (unmet (sym e5 ∙ z5) a)
+    module _ (z5 : differs ≡ false) (i : ℕ) (k : Class) (undefined : Bool) (ei : i ≡ getOf c 21 3) (ek : k ≡ classOf ed i) (e6 : undefined ≡ isUndefined k) where
+      past-crc : {n : ℕ} → Tested (drop 1 (afterRepair ed c)) n → n ≡ firstRefusal (afterRepair ed c)
+      past-crc a = tested (unmet (sym e5 ∙ z5) a)
 
-    test6 : isUndefined (classIn c) ≡ undefined
-    test6 = sym (e6 ∙ ap isUndefined (class-in c h i k ei ek))
+      test6 : isUndefined (classIn ed c) ≡ undefined
+      test6 = sym (e6 ∙ ap isUndefined (class-in c h i k ei ek))
 
-    pub undefined-refused : undefined ≡ true → 6 ≡ firstRefusal (afterRepair c)
-    undefined-refused m = past-crc (met (test6 ∙ m))
+      pub undefined-refused : undefined ≡ true → 6 ≡ firstRefusal (afterRepair ed c)
+      undefined-refused m = past-crc (met (test6 ∙ m))
 
-    module _ (z6 : undefined ≡ false) (s u : ℕ) (wrong : Bool) (es : s ≡ getOf c 17 2) (eu : u ≡ getOf c 19 2) (e7 : wrong ≡ flagsWrong k s u) where
-      test7 : flagsWrong (classIn c) (fieldAt c 17 2) (fieldAt c 19 2) ≡ wrong
-      test7 =
-          sym
-          (e7 ∙ ap (λ x. flagsWrong x s u) (class-in c h i k ei ek)
-          ∙ ap₂ (flagsWrong (classIn c)) (got c 17 2 s h refl es) (got c 19 2 u h refl eu))
+      module _ (z6 : undefined ≡ false) (s u : ℕ) (wrong : Bool) (es : s ≡ getOf c 17 2) (eu : u ≡ getOf c 19 2) (e7 : wrong ≡ flagsWrong k s u) where
+        test7 : flagsWrong (classIn ed c) (fieldAt c 17 2) (fieldAt c 19 2) ≡ wrong
+        test7 =
+            sym
+            (e7 ∙ ap (λ x. flagsWrong x s u) (class-in c h i k ei ek)
+            ∙ ap₂ (flagsWrong (classIn ed c)) (got c 17 2 s h refl es) (got c 19 2 u h refl eu))
 
-      pub flags-refused : wrong ≡ true → 7 ≡ firstRefusal (afterRepair c)
-      flags-refused m = past-crc (unmet (test6 ∙ z6) (met (test7 ∙ m)))
+        pub flags-refused : wrong ≡ true → 7 ≡ firstRefusal (afterRepair ed c)
+        flags-refused m = past-crc (unmet (test6 ∙ z6) (met (test7 ∙ m)))
 
-      module _ (z7 : wrong ≡ false) where
-        past-flags : {n : ℕ} → Tested (drop 3 (afterRepair c)) n → n ≡ firstRefusal (afterRepair c)
-        past-flags a = past-crc (unmet (test6 ∙ z6) (unmet (test7 ∙ z7) a))
+        module _ (z7 : wrong ≡ false) where
+          past-flags : {n : ℕ} → Tested (drop 3 (afterRepair ed c)) n → n ≡ firstRefusal (afterRepair ed c)
+          past-flags a = past-crc (unmet (test6 ∙ z6) (unmet (test7 ∙ z7) a))
 
-        test8 : not (fixedBitsHold (layout (bodyIn c)) (detailsIn c)) ≡ not (d .holds)
-        test8 = ap not (sym (t .fixed))
+          test8 : not (fixedBitsHold (layout (bodyIn ed c)) (detailsIn c)) ≡ not (d .holds)
+          test8 = ap not (sym (t .fixed))
 
-        pub fixed-refused : not (d .holds) ≡ true → 8 ≡ firstRefusal (afterRepair c)
-        fixed-refused m = past-flags (met (test8 ∙ m))
+          pub fixed-refused : not (d .holds) ≡ true → 8 ≡ firstRefusal (afterRepair ed c)
+          fixed-refused m = past-flags (met (test8 ∙ m))
 
-        module _ (z8 : not (d .holds) ≡ false) (b : Body) (over : Bool) (eb : b ≡ bodyIn c)
-            (e9 : over ≡ overLimit b (d .contents .latitude) (d .contents .longitude)) where
-          test9 : overLimit (bodyIn c) (recordIn 0 0 c .latitude) (recordIn 0 0 c .longitude) ≡ over
-          test9 =
-              sym
-              (e9 ∙ ap (λ x. overLimit x (d .contents .latitude) (d .contents .longitude)) eb
-              ∙ ap₂ (overLimit (bodyIn c)) (t .latitude) (t .longitude))
+          module _ (z8 : not (d .holds) ≡ false) (b : Body) (over : Bool) (eb : b ≡ bodyIn ed c)
+              (e9 : over ≡ overLimit b (d .contents .latitude) (d .contents .longitude)) where
+            test9 : overLimit (bodyIn ed c) (recordIn ed 0 0 c .latitude) (recordIn ed 0 0 c .longitude) ≡ over
+            test9 =
+                sym
+                (e9 ∙ ap (λ x. overLimit x (d .contents .latitude) (d .contents .longitude)) eb
+                ∙ ap₂ (overLimit (bodyIn ed c)) (t .latitude) (t .longitude))
 
-          pub limit-refused : over ≡ true → 9 ≡ firstRefusal (afterRepair c)
-          limit-refused m = past-flags (unmet (test8 ∙ z8) (met (test9 ∙ m)))
+            pub limit-refused : over ≡ true → 9 ≡ firstRefusal (afterRepair ed c)
+            limit-refused m = past-flags (unmet (test8 ∙ z8) (met (test9 ∙ m)))
 
-          pub none-refused : over ≡ false → 0 ≡ firstRefusal (afterRepair c)
-          none-refused m = past-flags (unmet (test8 ∙ z8) (unmet (test9 ∙ m) end))
+            pub none-refused : over ≡ false → 0 ≡ firstRefusal (afterRepair ed c)
+            none-refused m = past-flags (unmet (test8 ∙ z8) (unmet (test9 ∙ m) end))

@@ -1,4 +1,4 @@
-// The tests of a frame: those before the repair, and those of the repaired frame.
+// The tests of a frame: those before the repair, and those of the repaired frame, by the edition named.
 ghost use mathlib.Core.Path.{_≡_};
 ghost use mathlib.Core.Bool.{not};
 ghost use lib.Dec.{eqb};
@@ -11,6 +11,7 @@ ghost use Rattle.frame.specs.Read.{bodyIn, afterRepair};
 ghost use Rattle.frame_refusals.specs.Preamble.{preambleOf};
 ghost use Rattle.frame_refusals.specs.Word.{wordDetails, Tells};
 use frame::Body;
+use frame::Edition;
 use frame_details::Details;
 use sync_pattern::Sync;
 
@@ -41,22 +42,22 @@ pub fn preamble_of(frame: &[u8]) -> Preamble
 }
 
 // The body of a repaired frame.
-fn word_body(word: &[u8]) -> Body
+fn word_body(edition: Edition, word: &[u8]) -> Body
     requires { ⌜ length (now word) ≡ 26 ⌝ }
-    ensures { λ r. ⌜ r ≡ bodyIn (now (word .entry)) ⌝ }
+    ensures { λ r. ⌜ r ≡ bodyIn edition (now (word .entry)) ⌝ }
 {
-    let class = frame_kinds::class_of(bit_fields::get(word, 21, 3));
+    let class = frame_kinds::class_of(edition, bit_fields::get(word, 21, 3));
     let page = bit_fields::get(word, 55, 1);
     let kind = bit_fields::get(word, 67, 1);
     frame_kinds::body_of(class, page, kind)
 }
 
 // The details of a repaired frame. Here and below its 26 bytes are required: the caller has them from the repair.
-pub fn word_details(reference: u64, pattern: u64, word: &[u8]) -> Details
+pub fn word_details(edition: Edition, reference: u64, pattern: u64, word: &[u8]) -> Details
     requires { ⌜ length (now word) ≡ 26 ⌝ }
-    ensures { λ r. ⌜ r ≡ wordDetails reference pattern (now (word .entry)) ⌝ }
+    ensures { λ r. ⌜ r ≡ wordDetails edition reference pattern (now (word .entry)) ⌝ }
 {
-    let body = word_body(word);
+    let body = word_body(edition, word);
     let identification = bit_fields::get(word, 21, 3);
     let update = bit_fields::get(word, 19, 2);
     frame_details::read_details(body, reference, pattern, identification, update, &word[3..])
@@ -73,14 +74,14 @@ fn crc_differs(word: &[u8]) -> bool
 }
 
 // The tests after the repair: 5 to 9, or 0. The details are required to be those of the word: the caller has read them already.
-pub fn word_refusal(word: &[u8], details: Details) -> u8
-    requires { ⌜ (length (now word) ≡ 26) × Tells (now word) details ⌝ }
-    ensures { λ r. ⌜ r ≡ firstRefusal (afterRepair (now (word .entry))) ⌝ }
+pub fn word_refusal(edition: Edition, word: &[u8], details: Details) -> u8
+    requires { ⌜ (length (now word) ≡ 26) × Tells edition (now word) details ⌝ }
+    ensures { λ r. ⌜ r ≡ firstRefusal (afterRepair edition (now (word .entry))) ⌝ }
 {
     if crc_differs(word) {
         return 5;
     }
-    let class = frame_kinds::class_of(bit_fields::get(word, 21, 3));
+    let class = frame_kinds::class_of(edition, bit_fields::get(word, 21, 3));
     if frame_kinds::is_undefined(class) {
         return 6;
     }
@@ -93,7 +94,7 @@ pub fn word_refusal(word: &[u8], details: Details) -> u8
         return 8;
     }
     if frame_kinds::over_limit(
-        word_body(word),
+        word_body(edition, word),
         details.contents.latitude,
         details.contents.longitude,
     ) {

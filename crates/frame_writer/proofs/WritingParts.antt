@@ -11,6 +11,7 @@ use Rattle.bits.proofs.Segment.{length-packSegments}
 use Rattle.frame.specs.Body.{layout}
 use Rattle.frame.specs.Fields.{bodyValues, recordBody}
 use Rattle.frame_writer.specs.WriterParts.{frontWidths, frontValues, frontBits, detailBits}
+use Rattle.frame.specs.declared.Edition.{Edition}
 use Rattle.frame.specs.declared.Record.{Record}
 use Rattle.frame.proofs.Bodies.{layout-sum}
 
@@ -26,20 +27,20 @@ pub front-layout : (n : ℕ) → 3 ≤ n → Layout frontWidths n
 unfolding frontWidths sum
 front-layout n h = layout-room frontWidths 3 n refl h
 
-pub length-front : (r : Record) → length (frontBits r) ≡ 24
+pub length-front : (ed : Edition) (r : Record) → length (frontBits ed r) ≡ 24
 unfolding frontBits frontWidths sum
-length-front r = length-pack frontWidths (frontValues r)
+length-front ed r = length-pack frontWidths (frontValues ed r)
 
-pub front-count : (r : Record) (vs : List ℕ) → vs ≡ frontValues r → length vs ≡ 5
+pub front-count : (ed : Edition) (r : Record) (vs : List ℕ) → vs ≡ frontValues ed r → length vs ≡ 5
 unfolding frontValues
-front-count r vs e = ap length e
+front-count ed r vs e = ap length e
 
-pub front-written : (r : Record) (vs : List ℕ) (l m : List Bool) → vs ≡ frontValues r → m ≡ pack frontWidths vs ++ drop (sum frontWidths) l → m ≡ frontBits r ++ drop 24 l
+pub front-written : (ed : Edition) (r : Record) (vs : List ℕ) (l m : List Bool) → vs ≡ frontValues ed r → m ≡ pack frontWidths vs ++ drop (sum frontWidths) l → m ≡ frontBits ed r ++ drop 24 l
 unfolding frontBits frontWidths sum
-front-written r vs l m e p = p ∙ ap (λ v. pack frontWidths v ++ drop 24 l) e
+front-written ed r vs l m e p = p ∙ ap (λ v. pack frontWidths v ++ drop 24 l) e
 
 -- ---- B24 to B111
 
-pub length-details : (r : Record) → length (detailBits r) ≡ 88
+pub length-details : (ed : Edition) (r : Record) → length (detailBits ed r) ≡ 88
 unfolding detailBits
-length-details r = length-packSegments (layout (recordBody r)) (bodyValues (recordBody r) r) ∙ layout-sum (recordBody r)
+length-details ed r = length-packSegments (layout (recordBody ed r)) (bodyValues (recordBody ed r) r) ∙ layout-sum (recordBody ed r)

@@ -46,10 +46,16 @@ returns-3 c =
 returns-4 : tie.Need-returns-4
 returns-4 c = search needs
 
+enum-told-4 : tie.Need-enum-told-4
+enum-told-4 c = search needs
+
 returns-5 : tie.Need-returns-5
 returns-5 c = search needs
+
+returns-6 : tie.Need-returns-6
+returns-6 c = search needs
 
 pub body-of-spec : {M : Type 1} → statement M
 body-of-spec =
     tie.close
-    (tie.spec enum-told returns returns-2 enum-told-2 enum-told-3 returns-3 returns-4 returns-5)
+    (tie.spec enum-told returns returns-2 enum-told-2 enum-told-3 enum-told-4 returns-3 returns-4 returns-5 returns-6)

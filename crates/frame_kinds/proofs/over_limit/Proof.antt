@@ -1,13 +1,13 @@
 -- `frame_kinds::over_limit` meets its contract. Assumes nothing.
-use mathlib.Core.Path.{_≡_}
-use mathlib.Core.Bool.{true, false}
+use mathlib.Core.Path.{_≡_, sym, ap}
+use mathlib.Core.Bool.{true}
 use Prim.Native.Nat.{ℕ, _≤_, _<_}
 use lib.Dec.{ltb}
 use borrow.Author.Tests.{lt-ltb, le-ltb}
 use borrow.Author.Needs.{needs}
 use Rattle.frame.specs.Fields.{overLimit}
 use Rattle.frame.specs.declared.Body.{Body}
-use Rattle.frame.specs.declared.Body.the-variants.{PlacePage, CancelPage}
+use Rattle.frame.specs.declared.Body.the-variants.{PlacePage}
 use Rattle.frame_kinds.proofs.over_limit.Statement.{statement}
 use Rattle.frame_kinds.proofs.over_limit.Tie as tie
 
@@ -18,9 +18,9 @@ module _ (b : Body) (latitude longitude : ℕ) (place : b ≡ PlacePage) where
   inside : latitude ≤ 900 → ltb 1800 longitude ≡ overLimit b latitude longitude
   inside h = rw (place, le-ltb 900 latitude h)
 
--- a cancellation has no limits; said here, so that a limit is refused by the value that differs
-unlimited : (b : Body) (latitude longitude : ℕ) → b ≡ CancelPage → false ≡ overLimit b latitude longitude
-unlimited b latitude longitude e = rw e
+-- no other body has limits; said here, so that a limit is refused by the value that differs
+unlimited : {b k : Body} (latitude longitude : ℕ) → b ≡ k → overLimit k latitude longitude ≡ overLimit b latitude longitude
+unlimited latitude longitude e = ap (λ (y : Body). overLimit y latitude longitude) (sym e)
 
 enum-told : tie.Need-enum-told
 enum-told c = search needs
@@ -44,21 +44,18 @@ returns-3 : tie.Need-returns-3
 returns-3 c = let s = c .before .before .before .args in inside (s .body) (s .latitude) (s .longitude) (c .before .enum-told2 .given .1) (c .if1 .left)
 
 returns-4 : tie.Need-returns-4
-returns-4 c = let s = c .before .before .args in unlimited (s .body) (s .latitude) (s .longitude) (c .enum-told3 .given .1)
+returns-4 c = let s = c .before .before .args in unlimited (s .latitude) (s .longitude) (c .enum-told3 .given .1)
+
+enum-told-5 : tie.Need-enum-told-5
+enum-told-5 c = search needs
 
 returns-5 : tie.Need-returns-5
-returns-5 c = search needs
+returns-5 c = let s = c .before .before .args in unlimited (s .latitude) (s .longitude) (c .enum-told4 .given .1)
+
+returns-6 : tie.Need-returns-6
+returns-6 c = search needs
 
 pub over-limit-spec : {M : Type 1} → statement M
 over-limit-spec =
     tie.close
-    (tie.spec
-    enum-told
-    enum-told-2
-    returns
-    enum-told-3
-    enum-told-4
-    returns-2
-    returns-3
-    returns-4
-    returns-5)
+    (tie.spec enum-told enum-told-2 returns enum-told-3 enum-told-4 enum-told-5 returns-2 returns-3 returns-4 returns-5 returns-6)
