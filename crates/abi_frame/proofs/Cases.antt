@@ -12,6 +12,7 @@ use Rattle.frame.specs.Fields.{fieldCount, fields, recordFrom}
 use Rattle.frame.specs.Read.{readOf}
 use Rattle.frame.specs.Area.{warnedIn}
 use Rattle.frame.proofs.Promises.{demand2}
+use Rattle.frame.specs.declared.Edition.{Edition}
 use Rattle.frame.specs.declared.Record.{Record}
 use Rattle.frame.specs.declared.Damage.{Damage}
 use Rattle.frame.specs.declared.Reading.the-variants.{Accepted, Refused}
@@ -20,19 +21,19 @@ use Rattle.abi_frame.specs.Frame.{readingStatus, damageStatus, frameRead
 
 -- ---- reading: the status n and the buffer t
 
-module _ (f s : List ℕ) {n : ℕ} {t : List ℕ} where
-  pub read-wrong : length s ≢ fieldCount → n ≡ statusOf 1 0 → t ≡ s → (n ≡ frameReadStatus f s) × (t ≡ frameReadRecord f s)
+module _ (ed : Edition) (f s : List ℕ) {n : ℕ} {t : List ℕ} where
+  pub read-wrong : length s ≢ fieldCount → n ≡ statusOf 1 0 → t ≡ s → (n ≡ frameReadStatus ed f s) × (t ≡ frameReadRecord ed f s)
   unfolding frameReadStatus frameReadRecord
   read-wrong h e p = let z = ne-eqb (length s) fieldCount h in (rw z e, rw z p)
 
-  pub read-accepted : {r : Record} {d : Damage} → length s ≡ fieldCount → readOf f ≡ Accepted r d → n ≡ damageStatus d → t ≡ fields r
-      → (n ≡ frameReadStatus f s) × (t ≡ frameReadRecord f s)
+  pub read-accepted : {r : Record} {d : Damage} → length s ≡ fieldCount → readOf ed f ≡ Accepted r d → n ≡ damageStatus d → t ≡ fields r
+      → (n ≡ frameReadStatus ed f s) × (t ≡ frameReadRecord ed f s)
   unfolding frameReadStatus frameReadRecord readingStatus
   read-accepted l e p q = let z = eq-eqb (length s) fieldCount l in (rw (z, e) p, rw (z, e) q)
 
-  pub read-refused : {m : ℕ} → length s ≡ fieldCount → readOf f ≡ Refused m → n ≡ statusOf m 0 → t ≡ s → (n ≡ frameReadStatus f s) × (t ≡ frameReadRecord f s)
+  pub read-refused : {m : ℕ} → length s ≡ fieldCount → readOf ed f ≡ Refused m → n ≡ statusOf m 0 → t ≡ s → (n ≡ frameReadStatus ed f s) × (t ≡ frameReadRecord ed f s)
   unfolding frameReadStatus frameReadRecord readingStatus
-  read-refused {m} l e p q = let z = eq-eqb (length s) fieldCount l in (rw (z, e) (p ∙ sym (add-zero (statusOf m 0))), rw (z, e, ne-eqb m 0 (demand2 .judged-refused f m e .0)) q)
+  read-refused {m} l e p q = let z = eq-eqb (length s) fieldCount l in (rw (z, e) (p ∙ sym (add-zero (statusOf m 0))), rw (z, e, ne-eqb m 0 (demand2 ed .judged-refused f m e .0)) q)
 
 -- ---- an area: the status n
 

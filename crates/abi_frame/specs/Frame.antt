@@ -9,6 +9,7 @@ use Rattle.frame.specs.Fields.{fieldCount, recordFrom}
 use Rattle.frame.specs.Read.{readOf, readingNumber, readingPlaces, readingDiffering, readingFields}
 use Rattle.frame.specs.Write.{writeNumber, writeOf}
 use Rattle.frame.specs.Area.{warnedIn}
+use Rattle.frame.specs.declared.Edition.{Edition}
 use Rattle.frame.specs.declared.Damage.{Damage}
 use Rattle.frame.specs.declared.Reading.{Reading}
 use Rattle.abi.specs.Status.{statusOf}
@@ -22,19 +23,19 @@ abbrev pub damageStatus : Damage → ℕ
 damageStatus d = statusOf 0 (d .repaired) + 65536 * d .differing
 
 -- a record's buffer of another length than it has fields is 1, else the reader answers
-unfoldable pub frameReadStatus : (f s : List ℕ) → ℕ
-frameReadStatus f s = cond (eqb (length s) fieldCount) (readingStatus (readOf f)) (statusOf 1 0)
+unfoldable pub frameReadStatus : Edition → (f s : List ℕ) → ℕ
+frameReadStatus ed f s = cond (eqb (length s) fieldCount) (readingStatus (readOf ed f)) (statusOf 1 0)
 
 -- the fields of an accepted frame
-unfoldable pub frameReadRecord : (f s : List ℕ) → List ℕ
-frameReadRecord f s = cond (eqb (length s) fieldCount) (cond (eqb (readingNumber (readOf f)) 0) (readingFields (readOf f)) s) s
+unfoldable pub frameReadRecord : Edition → (f s : List ℕ) → List ℕ
+frameReadRecord ed f s = cond (eqb (length s) fieldCount) (cond (eqb (readingNumber (readOf ed f)) 0) (readingFields (readOf ed f)) s) s
 
 -- a record of another length than it has fields is 1, else the writer answers
-unfoldable pub frameWriteStatus : (v s : List ℕ) → ℕ
-frameWriteStatus v s = cond (eqb (length v) fieldCount) (statusOf (writeNumber (recordFrom v) (length s)) 0) (statusOf 1 0)
+unfoldable pub frameWriteStatus : Edition → (v s : List ℕ) → ℕ
+frameWriteStatus ed v s = cond (eqb (length v) fieldCount) (statusOf (writeNumber ed (recordFrom v) (length s)) 0) (statusOf 1 0)
 
-unfoldable pub frameWriteBytes : (v s : List ℕ) → List ℕ
-frameWriteBytes v s = cond (eqb (length v) fieldCount) (writeOf (recordFrom v) s) s
+unfoldable pub frameWriteBytes : Edition → (v s : List ℕ) → List ℕ
+frameWriteBytes ed v s = cond (eqb (length v) fieldCount) (writeOf ed (recordFrom v) s) s
 
 -- a record of another length than it has fields is 1, else 1 stands above the number where the area is warned; past area 55 none is
 unfoldable pub warnedStatus : (v : List ℕ) (area : ℕ) → ℕ

@@ -1,14 +1,18 @@
-// A frame laid into a header and taken out of it, as a C program can call them.
+// A frame laid into a header and taken out of it, as a C program can call them: the edition is named by its number.
 ghost use mathlib.Core.Path.{_≡_};
 ghost use Rattle.header_laying.specs.Laying.{layInOf, takeOutOf};
+ghost use Rattle.abi_edition.specs.Edition.{editionOf};
 ghost use Rattle.abi_laying.specs.Laying.{layInStatus, takeOutStatus};
 
 // Lays the repaired frame into a header.
-pub fn lay_in(header: &mut [u8], frame: &[u8]) -> u32
-    ensures status { λ r. ⌜ r ≡ layInStatus (now (header .entry)) (now (frame .entry)) ⌝ }
-    ensures header { λ _. ⌜ now (header .exit) ≡ layInOf (now (header .entry)) (now (frame .entry)) ⌝ }
+pub fn lay_in(edition: u32, header: &mut [u8], frame: &[u8]) -> u32
+    ensures status { λ r. ⌜ r ≡ layInStatus (editionOf edition) (now (header .entry)) (now (frame .entry)) ⌝ }
+    ensures header { λ _. ⌜ now (header .exit) ≡ layInOf (editionOf edition) (now (header .entry)) (now (frame .entry)) ⌝ }
 {
-    abi::status(header_inserter::lay_in(header, frame), 0)
+    abi::status(
+        header_inserter::lay_in(abi_edition::edition_of(edition), header, frame),
+        0,
+    )
 }
 
 // Takes a frame out of a header.

@@ -7,6 +7,7 @@ use native.Mathlib.Omega.{arith}
 use lib.Ieee.{Float}
 use lib.ListN.{length, set}
 use borrow.Author.Tests.{eq-eqb, ne-eqb}
+use Rattle.frame.specs.declared.Edition.{Edition}
 use Rattle.frame.specs.declared.Record.{Record}
 use Rattle.place.specs.Desk.{conversionOf, conversionNumber}
 use Rattle.place.specs.declared.Place.{Place}
@@ -39,23 +40,23 @@ five-stored (x ∷ y ∷ z ∷ w ∷ v ∷ u ∷ l) a b c d e h = absurd (omega 
 
 -- ---- a report: the status n and the buffer t
 
-module _ (v : List ℕ) (s : List Float) {n : ℕ} {t : List Float} where
-  pub record-wrong : length v ≢ fieldCount → n ≡ statusOf 1 0 → t ≡ s → (n ≡ reportStatus v s) × (t ≡ reportPlace v s)
+module _ (ed : Edition) (v : List ℕ) (s : List Float) {n : ℕ} {t : List Float} where
+  pub record-wrong : length v ≢ fieldCount → n ≡ statusOf 1 0 → t ≡ s → (n ≡ reportStatus ed v s) × (t ≡ reportPlace ed v s)
   unfolding reportStatus reportPlace
   record-wrong h e p = let z = ne-eqb (length v) fieldCount h in (rw z e, rw z p)
 
-  pub place-wrong : length v ≡ fieldCount → length s ≢ 3 → n ≡ statusOf 1 0 → t ≡ s → (n ≡ reportStatus v s) × (t ≡ reportPlace v s)
+  pub place-wrong : length v ≡ fieldCount → length s ≢ 3 → n ≡ statusOf 1 0 → t ≡ s → (n ≡ reportStatus ed v s) × (t ≡ reportPlace ed v s)
   unfolding reportStatus reportPlace
   place-wrong l h e p = let z = eq-eqb (length v) fieldCount l in let y = ne-eqb (length s) 3 h in (rw (z, y) e, rw (z, y) p)
 
   -- the report a of the record r
-  pub reported : (r : Record) (a b : Reported) → length v ≡ fieldCount → length s ≡ 3 → r ≡ recordFrom v → a ≡ reportOf r → a ≡ b → n ≡ statusOf (reportNumber b) (reportCase b)
-      → t ≡ doublesOf b s → (n ≡ reportStatus v s) × (t ≡ reportPlace v s)
+  pub reported : (r : Record) (a b : Reported) → length v ≡ fieldCount → length s ≡ 3 → r ≡ recordFrom v → a ≡ reportOf ed r → a ≡ b → n ≡ statusOf (reportNumber b) (reportCase b)
+      → t ≡ doublesOf b s → (n ≡ reportStatus ed v s) × (t ≡ reportPlace ed v s)
   unfolding reportStatus reportPlace
   reported r a b l m e f g p q =
       let z = eq-eqb (length v) fieldCount l in
       let y = eq-eqb (length s) 3 m in
-      let x : b ≡ reportOf (recordFrom v) = sym g ∙ f ∙ ap reportOf e in
+      let x : b ≡ reportOf ed (recordFrom v) = sym g ∙ f ∙ ap (reportOf ed) e in
       (rw (z, y) (p ∙ ap (λ (k : Reported). statusOf (reportNumber k) (reportCase k)) x), rw (z, y) (q ∙ ap (λ (k : Reported). doublesOf k s) x))
 
 -- ---- the desk

@@ -6,33 +6,35 @@ use lib.Dec.{eqb}
 use lib.ListN.{length}
 use lib.Ieee.{Float}
 use Rattle.frame.specs.Fields.{fieldCount, recordFrom}
+use Rattle.frame.specs.declared.Edition.{Edition}
 use Rattle.place.specs.Desk.{conversionOf, conversionNumber, conversionFields}
 use Rattle.place.specs.declared.Conversion.{Conversion}
 use Rattle.report.specs.Report.{reportOf, reportNumber, reportDoubles}
 use Rattle.report.specs.declared.Reported.{Reported}
-use Rattle.report.specs.declared.Reported.the-variants.{Place, Cancellation, AreasOnly, Nothing, Refused}
+use Rattle.report.specs.declared.Reported.the-variants.{Place, Cancellation, AreasOnly, Nothing, Safety, Refused}
 use Rattle.abi.specs.Status.{statusOf}
 
--- the case of a report: 0 nothing, 1 place, 2 cancellation, 3 areas only
+-- the case of a report: 0 nothing, 1 place, 2 cancellation, 3 areas only, 4 area safety information
 abbrev pub reportCase : Reported → ℕ
 reportCase (Place n m d) = 1
 reportCase Cancellation = 2
 reportCase AreasOnly = 3
 reportCase Nothing = 0
+reportCase Safety = 4
 reportCase (Refused n) = 0
 
 -- a record of another length than it has fields, or a place of another length than 3, is 1
-unfoldable pub reportStatus : (v : List ℕ) (s : List Float) → ℕ
-reportStatus v s =
+unfoldable pub reportStatus : Edition → (v : List ℕ) (s : List Float) → ℕ
+reportStatus ed v s =
     cond (eqb (length v) fieldCount)
-    (cond (eqb (length s) 3) (statusOf (reportNumber (reportOf (recordFrom v))) (reportCase (reportOf (recordFrom v)))) (statusOf 1 0)) (statusOf 1 0)
+    (cond (eqb (length s) 3) (statusOf (reportNumber (reportOf ed (recordFrom v))) (reportCase (reportOf ed (recordFrom v)))) (statusOf 1 0)) (statusOf 1 0)
 
 -- latitude, longitude and depth, of a place alone
 abbrev pub doublesOf : Reported → List Float → List Float
 doublesOf a s = cond (eqb (reportCase a) 1) (reportDoubles a) s
 
-unfoldable pub reportPlace : (v : List ℕ) → List Float → List Float
-reportPlace v s = cond (eqb (length v) fieldCount) (cond (eqb (length s) 3) (doublesOf (reportOf (recordFrom v)) s) s) s
+unfoldable pub reportPlace : Edition → (v : List ℕ) → List Float → List Float
+reportPlace ed v s = cond (eqb (length v) fieldCount) (cond (eqb (length s) 3) (doublesOf (reportOf ed (recordFrom v)) s) s) s
 
 -- the fields of a place that the desk converts
 abbrev pub convertedFields : Conversion → List ℕ → List ℕ

@@ -1,5 +1,6 @@
-// Places over plain numbers and slices, as a C program can call them.
+// Places over plain numbers and slices, as a C program can call them: the edition is named by its number.
 ghost use mathlib.Core.Path.{_≡_};
+ghost use Rattle.abi_edition.specs.Edition.{editionOf};
 ghost use Rattle.abi_place.specs.Place.{reportStatus, reportPlace, deskStatus, deskFields};
 use frame::FIELDS;
 use place::Conversion;
@@ -7,9 +8,9 @@ use place::Place;
 use report::Reported;
 
 // What a record reports: the case, and of a place its latitude, longitude and depth.
-pub fn report(values: &[u64], doubles: &mut [f64]) -> u32
-    ensures status { λ r. ⌜ r ≡ reportStatus (now (values .entry)) (now (doubles .entry)) ⌝ }
-    ensures doubles { λ _. ⌜ now (doubles .exit) ≡ reportPlace (now (values .entry)) (now (doubles .entry)) ⌝ }
+pub fn report(edition: u32, values: &[u64], doubles: &mut [f64]) -> u32
+    ensures status { λ r. ⌜ r ≡ reportStatus (editionOf edition) (now (values .entry)) (now (doubles .entry)) ⌝ }
+    ensures doubles { λ _. ⌜ now (doubles .exit) ≡ reportPlace (editionOf edition) (now (values .entry)) (now (doubles .entry)) ⌝ }
 {
     if values.len() != FIELDS {
         return abi::status(1, 0);
@@ -17,7 +18,10 @@ pub fn report(values: &[u64], doubles: &mut [f64]) -> u32
     if doubles.len() != 3 {
         return abi::status(1, 0);
     }
-    match report::report(frame_fields::record_of(values)) {
+    match report::report(
+        abi_edition::edition_of(edition),
+        frame_fields::record_of(values),
+    ) {
         Reported::Place {
             latitude,
             longitude,
@@ -31,6 +35,7 @@ pub fn report(values: &[u64], doubles: &mut [f64]) -> u32
         Reported::Cancellation => abi::status(0, 2),
         Reported::AreasOnly => abi::status(0, 3),
         Reported::Nothing => abi::status(0, 0),
+        Reported::Safety => abi::status(0, 4),
         Reported::Refused(number) => abi::status(number, 0),
     }
 }

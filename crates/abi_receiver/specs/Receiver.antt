@@ -1,10 +1,11 @@
 -- The follower and the captures over plain numbers. What each function returns. Assumes nothing.
 use mathlib.Core.Bool.{cond, _&&_}
 use mathlib.Core.List.{List}
-use Prim.Native.Nat.{ℕ, _+_, _-_, _*_, _%_}
+use Prim.Native.Nat.{ℕ, _+_, _*_, _/_, _%_}
 use lib.Dec.{leb}
+use Rattle.frame.specs.declared.Edition.{Edition}
 use Rattle.follower.specs.Follow.{stepOf, eventNumber}
-use Rattle.follower_events.specs.declared.Kind.the-variants.{Real, Test}
+use Rattle.follower_events.specs.Events.{kindNumber, kindAt}
 use Rattle.follower_events.specs.declared.Event.{Event}
 use Rattle.follower_events.specs.declared.Event.the-variants as event
 use Rattle.follower.specs.declared.Follower.{Follower}
@@ -15,15 +16,14 @@ use Rattle.capture.specs.declared.Tuner.{Tuner}
 use Rattle.capture.specs.declared.Tuner.the-variants.{Neither, Main, Spare}
 use Rattle.abi.specs.Status.{statusOf}
 
--- a state's number: 0 quiet, 4+u real, 8+u test, for the two low bits u of the update number
+-- a state's number: 0 quiet, 4+u real, 8+u test, 12+u area safety information, 16+u its test, for the two low bits u of the update number
 abbrev pub stateNumber : Follower → ℕ
 stateNumber Quiet = 0
-stateNumber (Active Real u) = 4 + u % 4
-stateNumber (Active Test u) = 8 + u % 4
+stateNumber (Active k u) = 4 * kindNumber k + u % 4
 
 -- the state of a number; a number that no state has is taken for quiet, as after a restart
 unfoldable pub stateOf : ℕ → Follower
-stateOf n = cond (leb 4 n && leb n 7) (Active Real (n - 4)) (cond (leb 8 n && leb n 11) (Active Test (n - 8)) Quiet)
+stateOf n = cond (leb 4 n && leb n 19) (Active (kindAt (n / 4)) (n % 4)) Quiet
 
 abbrev pub eventCase : Event → ℕ
 eventCase event.Quiet = 0
@@ -38,8 +38,8 @@ eventCase (event.Refused n) = 6
 abbrev pub stepStatus : Step → ℕ
 stepStatus t = statusOf (eventNumber (t .event)) (eventCase (t .event)) + 65536 * stateNumber (t .next)
 
-unfoldable pub followStatus : ℕ → List ℕ → ℕ
-followStatus n f = stepStatus (stepOf (stateOf n) f)
+unfoldable pub followStatus : Edition → ℕ → List ℕ → ℕ
+followStatus ed n f = stepStatus (stepOf ed (stateOf n) f)
 
 -- 0 neither, 1 main, 2 spare
 abbrev pub tunerCase : Tuner → ℕ
@@ -47,9 +47,9 @@ tunerCase Neither = 0
 tunerCase Main = 1
 tunerCase Spare = 2
 
-abbrev pub captureSource : (main spare : List ℕ) → ℕ → ℕ
-captureSource main spare n = tunerCase (sourceOf main spare n)
+abbrev pub captureSource : Edition → (main spare : List ℕ) → ℕ → ℕ
+captureSource ed main spare n = tunerCase (sourceOf ed main spare n)
 
 -- main's number, and 256 times spare's
-abbrev pub captureNumbers : (main spare : List ℕ) → ℕ → ℕ
-captureNumbers main spare n = statusOf (numberAt main n) (numberAt spare n)
+abbrev pub captureNumbers : Edition → (main spare : List ℕ) → ℕ → ℕ
+captureNumbers ed main spare n = statusOf (numberAt ed main n) (numberAt ed spare n)

@@ -1,13 +1,13 @@
-// The follower and the captures over plain numbers and slices, as a C program can call them.
+// The follower and the captures over plain numbers and slices, as a C program can call them: the edition is named by its number.
 ghost use mathlib.Core.Path.{_≡_};
 ghost use Prim.Native.Nat.{_<_};
 ghost use Rattle.follower.specs.Follow.{eventNumber};
 ghost use Rattle.abi.specs.Status.{statusOf};
+ghost use Rattle.abi_edition.specs.Edition.{editionOf};
 ghost use Rattle.abi_receiver.specs.Receiver.{stateNumber, stateOf, eventCase, stepStatus, followStatus, captureSource, captureNumbers};
 use capture::Tuner;
 use follower::Event;
 use follower::Follower;
-use follower::Kind;
 use follower::Step;
 
 fn state_number(state: Follower) -> u32
@@ -16,11 +16,7 @@ fn state_number(state: Follower) -> u32
     match state {
         Follower::Quiet => 0,
         Follower::Active(kind, update) => {
-            let low = (update % 4) as u32;
-            match kind {
-                Kind::Real => 4 + low,
-                Kind::Test => 8 + low,
-            }
+            4 * follower_events::kind_number(kind) + (update % 4) as u32
         }
     }
 }
@@ -32,11 +28,8 @@ fn state_of(number: u32) -> Follower
     if number < 4 {
         return Follower::Quiet;
     }
-    if number <= 7 {
-        return Follower::Active(Kind::Real, (number - 4) as u64);
-    }
-    if number <= 11 {
-        return Follower::Active(Kind::Test, (number - 8) as u64);
+    if number <= 19 {
+        return Follower::Active(follower_events::kind_at(number / 4), (number % 4) as u64);
     }
     Follower::Quiet
 }
@@ -65,17 +58,17 @@ fn step_status(step: Step) -> u32
 }
 
 // Follows a frame from a state.
-pub fn follow(state: u32, frame: &[u8]) -> u32
-    ensures { λ r. ⌜ r ≡ followStatus state (now (frame .entry)) ⌝ }
+pub fn follow(edition: u32, state: u32, frame: &[u8]) -> u32
+    ensures { λ r. ⌜ r ≡ followStatus (editionOf edition) state (now (frame .entry)) ⌝ }
 {
-    step_status(frame_follower::step(state_of(state), frame))
+    step_status(frame_follower::step(abi_edition::edition_of(edition), state_of(state), frame))
 }
 
 // The tuner that frame n is taken from.
-pub fn capture_source(main: &[u8], spare: &[u8], n: u64) -> u32
-    ensures { λ r. ⌜ r ≡ captureSource (now (main .entry)) (now (spare .entry)) n ⌝ }
+pub fn capture_source(edition: u32, main: &[u8], spare: &[u8], n: u64) -> u32
+    ensures { λ r. ⌜ r ≡ captureSource (editionOf edition) (now (main .entry)) (now (spare .entry)) n ⌝ }
 {
-    match capture::source(main, spare, n as usize) {
+    match capture::source(abi_edition::edition_of(edition), main, spare, n as usize) {
         Tuner::Neither => 0,
         Tuner::Main => 1,
         Tuner::Spare => 2,
@@ -83,9 +76,9 @@ pub fn capture_source(main: &[u8], spare: &[u8], n: u64) -> u32
 }
 
 // Both tuners' numbers for frame n.
-pub fn capture_numbers(main: &[u8], spare: &[u8], n: u64) -> u32
-    ensures { λ r. ⌜ r ≡ captureNumbers (now (main .entry)) (now (spare .entry)) n ⌝ }
+pub fn capture_numbers(edition: u32, main: &[u8], spare: &[u8], n: u64) -> u32
+    ensures { λ r. ⌜ r ≡ captureNumbers (editionOf edition) (now (main .entry)) (now (spare .entry)) n ⌝ }
 {
-    let numbers = capture::numbers(main, spare, n as usize);
+    let numbers = capture::numbers(abi_edition::edition_of(edition), main, spare, n as usize);
     abi::status(numbers.main, numbers.spare)
 }

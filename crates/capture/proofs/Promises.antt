@@ -6,7 +6,12 @@ use Prim.Native.Nat.{ℕ, _+_, _*_}
 use native.Mathlib.Omega.{arith}
 use lib.ListN.{length, take, drop}
 use lib.Seq.{take-at, drop-append-add}
-use Rattle.frame.specs.Read.{frameRefusal}
+use Rattle.dsc.specs.Repair.{repairOf}
+use Rattle.frame.specs.Read.{identificationIn, frameRefusal, judgeOf}
+use Rattle.frame.specs.Promises.{NotSafety}
+use Rattle.frame.specs.declared.Edition.{Edition}
+use Rattle.frame.specs.declared.Verdict.{Verdict}
+use Rattle.frame.proofs.Editions.{editions}
 use Rattle.capture.specs.Capture.{partAt, numberAt, bytesFrom, frameAt}
 use Rattle.capture.specs.Promises.{endToEnd, Whole, Tuners}
 use Rattle.capture.specs.declared.Tuner.{Tuner}
@@ -31,47 +36,55 @@ nth : (fs : List (List ℕ)) (f : List ℕ) (gs : List (List ℕ)) (tail : List 
 unfolding endToEnd
 nth fs f gs tail w h = ap (take 26) (behind fs (f ∷ gs) tail w ∙ append-assoc f (endToEnd gs) tail) ∙ take-at f (endToEnd gs ++ tail) 26 h
 
--- ---- the part
+module _ (ed : Edition) where
+  -- ---- the part
 
-module _ (main spare : List ℕ) (n : ℕ) where
-  main-first : numberAt main n ≡ 0 → frameAt main spare n ≡ partAt main n
-  main-first e = ap (λ (t : Tuner). bytesFrom t main spare n) (source-main main spare n e)
+  module _ (main spare : List ℕ) (n : ℕ) where
+    main-first : numberAt ed main n ≡ 0 → frameAt ed main spare n ≡ partAt main n
+    main-first e = ap (λ (t : Tuner). bytesFrom t main spare n) (source-main ed main spare n e)
 
-  spare-otherwise : numberAt main n ≢ 0 → numberAt spare n ≡ 0 → frameAt main spare n ≡ partAt spare n
-  spare-otherwise m e = ap (λ (t : Tuner). bytesFrom t main spare n) (source-spare main spare n m e)
+    spare-otherwise : numberAt ed main n ≢ 0 → numberAt ed spare n ≡ 0 → frameAt ed main spare n ≡ partAt spare n
+    spare-otherwise m e = ap (λ (t : Tuner). bytesFrom t main spare n) (source-spare ed main spare n m e)
 
-  empty : numberAt main n ≢ 0 → numberAt spare n ≢ 0 → frameAt main spare n ≡ []
-  empty m s = ap (λ (t : Tuner). bytesFrom t main spare n) (source-neither main spare n m s)
+    empty : numberAt ed main n ≢ 0 → numberAt ed spare n ≢ 0 → frameAt ed main spare n ≡ []
+    empty m s = ap (λ (t : Tuner). bytesFrom t main spare n) (source-neither ed main spare n m s)
 
--- an accepted frame is not empty
-not-empty : (c f : List ℕ) (n : ℕ) → numberAt c n ≡ 0 → f ≡ partAt c n → f ≢ []
-not-empty c f n e p q = omega (arith, accepted-part c n e .0, ap length (sym p ∙ q))
+  -- an accepted frame is not empty
+  not-empty : (c f : List ℕ) (n : ℕ) → numberAt ed c n ≡ 0 → f ≡ partAt c n → f ≢ []
+  not-empty c f n e p q = omega (arith, accepted-part ed c n e .0, ap length (sym p ∙ q))
 
-empty-only : (main spare : List ℕ) (n : ℕ) → frameAt main spare n ≡ [] → (numberAt main n ≢ 0) × (numberAt spare n ≢ 0)
-empty-only main spare n e = go (choice main spare n)
-  where
-    go : Choice main spare n → (numberAt main n ≢ 0) × (numberAt spare n ≢ 0)
-    go (by-main m) = absurd (not-empty main (frameAt main spare n) n m (main-first main spare n m) e)
-    go (by-spare m s) = absurd (not-empty spare (frameAt main spare n) n s (spare-otherwise main spare n m s) e)
-    go (by-neither m s) = (m, s)
+  empty-only : (main spare : List ℕ) (n : ℕ) → frameAt ed main spare n ≡ [] → (numberAt ed main n ≢ 0) × (numberAt ed spare n ≢ 0)
+  empty-only main spare n e = go (choice ed main spare n)
+    where
+      go : Choice ed main spare n → (numberAt ed main n ≢ 0) × (numberAt ed spare n ≢ 0)
+      go (by-main m) = absurd (not-empty main (frameAt ed main spare n) n m (main-first main spare n m) e)
+      go (by-spare m s) = absurd (not-empty spare (frameAt ed main spare n) n s (spare-otherwise main spare n m s) e)
+      go (by-neither m s) = (m, s)
 
-accepted : (main spare : List ℕ) (n : ℕ) → frameAt main spare n ≢ [] → (length (frameAt main spare n) ≡ 26) × (frameRefusal (frameAt main spare n) ≡ 0)
-accepted main spare n ne = go (choice main spare n)
-  where
-    go : Choice main spare n → (length (frameAt main spare n) ≡ 26) × (frameRefusal (frameAt main spare n) ≡ 0)
-    go (by-main m) = rw (main-first main spare n m) (accepted-part main n m)
-    go (by-spare m s) = rw (spare-otherwise main spare n m s) (accepted-part spare n s)
-    go (by-neither m s) = absurd (ne (empty main spare n m s))
+  accepted : (main spare : List ℕ) (n : ℕ) → frameAt ed main spare n ≢ [] → (length (frameAt ed main spare n) ≡ 26) × (frameRefusal ed (frameAt ed main spare n) ≡ 0)
+  accepted main spare n ne = go (choice ed main spare n)
+    where
+      go : Choice ed main spare n → (length (frameAt ed main spare n) ≡ 26) × (frameRefusal ed (frameAt ed main spare n) ≡ 0)
+      go (by-main m) = rw (main-first main spare n m) (accepted-part ed main n m)
+      go (by-spare m s) = rw (spare-otherwise main spare n m s) (accepted-part ed spare n s)
+      go (by-neither m s) = absurd (ne (empty main spare n m s))
 
-pub tuners : Tuners
-tuners =
-    record {
-      nth = nth;
-      within = number-within;
-      past = number-past;
-      main-first = main-first;
-      spare-otherwise = spare-otherwise;
-      empty = empty;
-      empty-only = empty-only;
-      accepted = accepted;
-    }
+  alike : (other : Edition) (c : List ℕ) (n : ℕ) → NotSafety (identificationIn (repairOf (partAt c n) .word)) → numberAt ed c n ≡ numberAt other c n
+  unfolding numberAt judgeOf
+  alike other c n h =
+      let same : frameRefusal ed (partAt c n) ≡ frameRefusal other (partAt c n) = ap (λ (v : Verdict). v .number) (editions .frame-alike ed other (partAt c n) h .judged) in
+      rw same
+
+  pub tuners : Tuners ed
+  tuners =
+      record {
+        nth = nth;
+        within = number-within ed;
+        past = number-past ed;
+        main-first = main-first;
+        spare-otherwise = spare-otherwise;
+        empty = empty;
+        empty-only = empty-only;
+        accepted = accepted;
+        alike = alike;
+      }

@@ -1,10 +1,11 @@
--- Frames in two captures (document 01, "Two tuners"). Assumes nothing.
+-- Frames in two captures (document 01, "Two tuners"; document 02, a), by the edition named. Assumes nothing.
 use mathlib.Core.Bool.{cond}
 use mathlib.Core.List.{List, []}
 use Prim.Native.Nat.{ℕ, _+_, _*_}
 use lib.Dec.{eqb, leb}
 use lib.ListN.{length, take, drop}
 use Rattle.frame.specs.Read.{frameRefusal}
+use Rattle.frame.specs.declared.Edition.{Edition}
 use Rattle.capture.specs.declared.Tuner.{Tuner}
 use Rattle.capture.specs.declared.Tuner.the-variants.{Neither, Main, Spare}
 use Rattle.capture.specs.declared.TunerNumbers.{TunerNumbers}
@@ -14,16 +15,16 @@ abbrev pub partAt : List ℕ → ℕ → List ℕ
 partAt c n = take 26 (drop (26 * n) c)
 
 -- a tuner's number for frame n: 1 where its 26 bytes do not all lie in the capture c
-unfoldable pub numberAt : List ℕ → ℕ → ℕ
-numberAt c n = cond (leb (26 * n + 26) (length c)) (frameRefusal (partAt c n)) 1
+unfoldable pub numberAt : Edition → List ℕ → ℕ → ℕ
+numberAt ed c n = cond (leb (26 * n + 26) (length c)) (frameRefusal ed (partAt c n)) 1
 
 -- what `numbers` answers
-abbrev pub numbersOf : (main spare : List ℕ) → ℕ → TunerNumbers
-numbersOf main spare n = record { main = numberAt main n; spare = numberAt spare n }
+abbrev pub numbersOf : Edition → (main spare : List ℕ) → ℕ → TunerNumbers
+numbersOf ed main spare n = record { main = numberAt ed main n; spare = numberAt ed spare n }
 
 -- the main one if accepted there, otherwise the spare one if accepted there
-unfoldable pub sourceOf : (main spare : List ℕ) → ℕ → Tuner
-sourceOf main spare n = cond (eqb (numberAt main n) 0) Main (cond (eqb (numberAt spare n) 0) Spare Neither)
+unfoldable pub sourceOf : Edition → (main spare : List ℕ) → ℕ → Tuner
+sourceOf ed main spare n = cond (eqb (numberAt ed main n) 0) Main (cond (eqb (numberAt ed spare n) 0) Spare Neither)
 
 -- the bytes of frame n in a tuner's capture; neither: an empty part
 abbrev pub bytesFrom : Tuner → (main spare : List ℕ) → ℕ → List ℕ
@@ -32,8 +33,8 @@ bytesFrom Spare main spare n = partAt spare n
 bytesFrom Neither main spare n = []
 
 -- what `frame_at` answers
-abbrev pub frameAt : (main spare : List ℕ) → ℕ → List ℕ
-frameAt main spare n = bytesFrom (sourceOf main spare n) main spare n
+abbrev pub frameAt : Edition → (main spare : List ℕ) → ℕ → List ℕ
+frameAt ed main spare n = bytesFrom (sourceOf ed main spare n) main spare n
 
 -- where frame n stands, when its capture stands at this place, a block and a byte in it: at byte 26n of the capture
 abbrev pub positionAt : ℕ × ℕ → ℕ → ℕ × ℕ

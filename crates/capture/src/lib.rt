@@ -1,8 +1,9 @@
-// Two tuners, each with a capture: frames end to end, frame n at byte 26n.
+// Two tuners, by the edition named, each with a capture: frames end to end, frame n at byte 26n.
 ghost use mathlib.Core.Path.{_≡_};
 ghost use Prim.Native.Nat.{_+_, _*_, _≤_};
 ghost use lib.ListN.{length};
 ghost use Rattle.capture.specs.Capture.{partAt, positionAt, numberAt, numbersOf, sourceOf, bytesFrom, positionFrom};
+use frame::Edition;
 
 // The tuner that a frame is taken from.
 pub enum Tuner {
@@ -29,44 +30,44 @@ fn part(capture: &[u8], n: usize) -> &[u8]
 }
 
 // A tuner's number for frame n, however large: 1 where the 26 bytes do not all lie in the capture.
-pub fn number(capture: &[u8], n: usize) -> u8
-    ensures { λ r. ⌜ r ≡ numberAt (now (capture .entry)) n ⌝ }
+pub fn number(edition: Edition, capture: &[u8], n: usize) -> u8
+    ensures { λ r. ⌜ r ≡ numberAt edition (now (capture .entry)) n ⌝ }
 {
     if n < capture.len() / 26 {
-        return frame_reader::judge(part(capture, n)).number;
+        return frame_reader::judge(edition, part(capture, n)).number;
     }
     1
 }
 
 // Both tuners' numbers, main first.
-pub fn numbers(main: &[u8], spare: &[u8], n: usize) -> TunerNumbers
-    ensures { λ r. ⌜ r ≡ numbersOf (now (main .entry)) (now (spare .entry)) n ⌝ }
+pub fn numbers(edition: Edition, main: &[u8], spare: &[u8], n: usize) -> TunerNumbers
+    ensures { λ r. ⌜ r ≡ numbersOf edition (now (main .entry)) (now (spare .entry)) n ⌝ }
 {
     TunerNumbers {
-        main: number(main, n),
-        spare: number(spare, n),
+        main: number(edition, main, n),
+        spare: number(edition, spare, n),
     }
 }
 
 // Main where the frame is accepted there, otherwise spare where it is accepted there.
-pub fn source(main: &[u8], spare: &[u8], n: usize) -> Tuner
-    ensures { λ r. ⌜ r ≡ sourceOf (now (main .entry)) (now (spare .entry)) n ⌝ }
+pub fn source(edition: Edition, main: &[u8], spare: &[u8], n: usize) -> Tuner
+    ensures { λ r. ⌜ r ≡ sourceOf edition (now (main .entry)) (now (spare .entry)) n ⌝ }
 {
-    if number(main, n) == 0 {
+    if number(edition, main, n) == 0 {
         return Tuner::Main;
     }
-    if number(spare, n) == 0 {
+    if number(edition, spare, n) == 0 {
         return Tuner::Spare;
     }
     Tuner::Neither
 }
 
 // The frame's own bytes, where they stand in the capture that it is taken from; an empty part where neither has it.
-pub fn frame_at<'a>(main: &'a [u8], spare: &'a [u8], n: usize) -> &'a [u8]
-    ensures bytes { λ r. ⌜ now r ≡ bytesFrom (sourceOf (now (main .entry)) (now (spare .entry)) n) (now (main .entry)) (now (spare .entry)) n ⌝ }
-    ensures place { λ r. ⌜ r .ptr ≡ positionFrom (sourceOf (now (main .entry)) (now (spare .entry)) n) (main .entry .ptr) (spare .entry .ptr) n ⌝ }
+pub fn frame_at<'a>(edition: Edition, main: &'a [u8], spare: &'a [u8], n: usize) -> &'a [u8]
+    ensures bytes { λ r. ⌜ now r ≡ bytesFrom (sourceOf edition (now (main .entry)) (now (spare .entry)) n) (now (main .entry)) (now (spare .entry)) n ⌝ }
+    ensures place { λ r. ⌜ r .ptr ≡ positionFrom (sourceOf edition (now (main .entry)) (now (spare .entry)) n) (main .entry .ptr) (spare .entry .ptr) n ⌝ }
 {
-    match source(main, spare, n) {
+    match source(edition, main, spare, n) {
         Tuner::Main => {
             return part(main, n);
         }

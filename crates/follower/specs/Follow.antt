@@ -1,9 +1,10 @@
--- Following the update number (document 01, "Following the update number"). Assumes nothing.
-use mathlib.Core.Bool.{cond}
+-- Following the update number (document 01, "Following the update number"; document 02, a), by the edition named. Assumes nothing.
+use mathlib.Core.Bool.{Bool, true, false, cond}
 use mathlib.Core.List.{List}
 use Prim.Native.Nat.{ℕ}
 use Rattle.frame.specs.Identification.{classOf}
 use Rattle.frame.specs.Read.{readOf}
+use Rattle.frame.specs.declared.Edition.{Edition}
 use Rattle.frame.specs.declared.Class.{Class}
 use Rattle.frame.specs.declared.Class.the-variants as class
 use Rattle.frame.specs.declared.Record.{Record}
@@ -19,7 +20,7 @@ use Rattle.follower.specs.declared.Follower.{Follower}
 use Rattle.follower.specs.declared.Follower.the-variants.{Quiet, Active}
 use Rattle.follower.specs.declared.Step.{Step}
 
--- a warning from quiet, or of the other kind: "begins"
+-- a warning from quiet, or of any other kind: "begins"; area safety information has a kind too, and is followed like a warning
 abbrev pub warningEvent : Follower → Kind → ℕ → Event
 warningEvent Quiet k u = event.Begins
 warningEvent (Active h v) k u = cond (sameKind h k) (changeOf v u) event.Begins
@@ -35,19 +36,27 @@ stepSeen s (seen.Refused n) = record { next = s; event = event.Refused n }
 stepSeen s seen.Silence = record { next = Quiet; event = silenceEvent s }
 stepSeen s (seen.Warning k u) = record { next = Active k u; event = warningEvent s k u }
 
+-- a warning or area safety information: what has a kind
+abbrev pub isFollowed : Class → Bool
+isFollowed class.Warning = true
+isFollowed class.Safety = true
+isFollowed class.Silent = false
+isFollowed class.Undefined = false
+
 -- what an accepted frame's record shows; it is never undefined
 abbrev pub seenIn : Class → Record → Seen
 seenIn class.Warning r = seen.Warning (kindOf (r .identification)) (r .update)
+seenIn class.Safety r = seen.Warning (kindOf (r .identification)) (r .update)
 seenIn class.Silent r = seen.Silence
 seenIn class.Undefined r = seen.Refused 6
 
-abbrev pub seenOf : Reading → Seen
-seenOf (reading.Accepted r d) = seenIn (classOf (r .identification)) r
-seenOf (reading.Refused n) = seen.Refused n
+abbrev pub seenOf : Edition → Reading → Seen
+seenOf ed (reading.Accepted r d) = seenIn (classOf ed (r .identification)) r
+seenOf ed (reading.Refused n) = seen.Refused n
 
 -- what `step` answers
-unfoldable pub stepOf : Follower → List ℕ → Step
-stepOf s f = stepSeen s (seenOf (readOf f))
+unfoldable pub stepOf : Edition → Follower → List ℕ → Step
+stepOf ed s f = stepSeen s (seenOf ed (readOf ed f))
 
 -- document 01's number of an event
 abbrev pub eventNumber : Event → ℕ

@@ -1,21 +1,22 @@
-// Following the update number: the old state goes in by value, the next one comes back with an event.
+// Following the update number, by the edition named: the old state goes in by value, the next one comes back with an event.
 ghost use mathlib.Core.Path.{_≡_};
 ghost use Rattle.follower.specs.declared.Follower.the-variants.{Quiet};
 ghost use Rattle.follower.specs.Follow.{warningEvent, seenIn, seenOf, stepSeen};
 pub use follower_events::Event;
 pub use follower_events::Kind;
 use frame::Class;
+use frame::Edition;
 use frame::Reading;
 use frame::Record;
 
-// What a frame shows to the follower.
+// What a frame shows to the follower: a warning or area safety information, of this kind and with this update number, or neither.
 pub enum Seen {
     Warning(Kind, u64),
     Silence,
     Refused(u8),
 }
 
-// The state: quiet, or a warning of this kind with its update number.
+// The state: quiet, or a warning or area safety information of this kind, with its update number.
 pub enum Follower {
     Quiet,
     Active(Kind, u64),
@@ -50,19 +51,23 @@ fn seen_in(class: Class, message: Record) -> Seen
             follower_events::kind_of(message.identification),
             message.update,
         ),
+        Class::Safety => Seen::Warning(
+            follower_events::kind_of(message.identification),
+            message.update,
+        ),
         Class::Silent => Seen::Silence,
         Class::Undefined => Seen::Refused(6),
     }
 }
 
 // What a frame shows, as it was read.
-pub fn seen_of(reading: Reading) -> Seen
-    ensures { λ r. ⌜ r ≡ seenOf reading ⌝ }
+pub fn seen_of(edition: Edition, reading: Reading) -> Seen
+    ensures { λ r. ⌜ r ≡ seenOf edition reading ⌝ }
 {
     match reading {
         Reading::Refused(n) => Seen::Refused(n),
         Reading::Accepted(message, damage) => seen_in(
-            frame_kinds::class_of(message.identification),
+            frame_kinds::class_of(edition, message.identification),
             message,
         ),
     }

@@ -1,21 +1,29 @@
--- The kinds of warnings, and how an update number went (document 01, "Following the update number"). Assumes nothing.
-use mathlib.Core.Bool.{Bool, true, false, cond}
+-- The kinds of what is announced, and how an update number went (document 01, "Following the update number"; document 02, a). Assumes nothing.
+use mathlib.Core.Bool.{Bool, cond}
 use Prim.Native.Nat.{ℕ, _+_, _%_}
 use lib.Dec.{eqb, leb}
 use Rattle.follower_events.specs.declared.Kind.{Kind}
-use Rattle.follower_events.specs.declared.Kind.the-variants.{Real, Test}
+use Rattle.follower_events.specs.declared.Kind.the-variants.{Real, Test, Safety, SafetyTest}
 use Rattle.follower_events.specs.declared.Event.{Event}
 use Rattle.follower_events.specs.declared.Event.the-variants as event
 
--- real (0, 1), test (2, 3)
+-- real (0, 1), test (2, 3), area safety information (5), its test (6)
 unfoldable pub kindOf : (identification : ℕ) → Kind
-kindOf i = cond (leb i 1) Real Test
+kindOf i = cond (leb i 1) Real (cond (leb i 3) Test (cond (eqb i 5) Safety SafetyTest))
 
+-- a number for each kind, and the kind that has it
+abbrev pub kindNumber : Kind → ℕ
+kindNumber Real = 1
+kindNumber Test = 2
+kindNumber Safety = 3
+kindNumber SafetyTest = 4
+
+unfoldable pub kindAt : ℕ → Kind
+kindAt n = cond (eqb n 1) Real (cond (eqb n 2) Test (cond (eqb n 3) Safety SafetyTest))
+
+-- the same kind has the same number, and no two kinds have
 abbrev pub sameKind : Kind → Kind → Bool
-sameKind Real Real = true
-sameKind Real Test = false
-sameKind Test Real = false
-sameKind Test Test = true
+sameKind h k = eqb (kindNumber h) (kindNumber k)
 
 -- same kind: u equal "same", u+1 mod 4 "changed", otherwise "skipped"; the old number may be any
 unfoldable pub changeOf : (old new : ℕ) → Event

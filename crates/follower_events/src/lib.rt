@@ -1,11 +1,13 @@
-// The kinds of warnings, and how an update number went, as events.
+// The kinds of what is announced, and how an update number went, as events.
 ghost use mathlib.Core.Path.{_≡_};
-ghost use Rattle.follower_events.specs.Events.{kindOf, sameKind, changeOf};
+ghost use Rattle.follower_events.specs.Events.{kindOf, kindNumber, kindAt, sameKind, changeOf};
 
-// What a warning is: identification 0 and 1 are real, 2 and 3 a test.
+// Identification 0 and 1 are a real warning, 2 and 3 a test of it; 5 is area safety information, 6 a test of that.
 pub enum Kind {
     Real,
     Test,
+    Safety,
+    SafetyTest,
 }
 
 pub enum Event {
@@ -24,7 +26,41 @@ pub fn kind_of(identification: u64) -> Kind
     if identification <= 1 {
         return Kind::Real;
     }
-    Kind::Test
+    if identification <= 3 {
+        return Kind::Test;
+    }
+    if identification == 5 {
+        return Kind::Safety;
+    }
+    Kind::SafetyTest
+}
+
+// A number for each kind.
+pub fn kind_number(kind: Kind) -> u32
+    ensures { λ r. ⌜ r ≡ kindNumber kind ⌝ }
+{
+    match kind {
+        Kind::Real => 1,
+        Kind::Test => 2,
+        Kind::Safety => 3,
+        Kind::SafetyTest => 4,
+    }
+}
+
+// The kind that has this number.
+pub fn kind_at(number: u32) -> Kind
+    ensures { λ r. ⌜ r ≡ kindAt number ⌝ }
+{
+    if number == 1 {
+        return Kind::Real;
+    }
+    if number == 2 {
+        return Kind::Test;
+    }
+    if number == 3 {
+        return Kind::Safety;
+    }
+    Kind::SafetyTest
 }
 
 // How the update number went. The old one may be any number, so that it is cut down before 1 is added.
@@ -43,14 +79,5 @@ pub fn change(old: u64, new: u64) -> Event
 pub fn same_kind(one: Kind, other: Kind) -> bool
     ensures { λ r. ⌜ r ≡ sameKind one other ⌝ }
 {
-    match one {
-        Kind::Real => match other {
-            Kind::Real => true,
-            Kind::Test => false,
-        },
-        Kind::Test => match other {
-            Kind::Real => false,
-            Kind::Test => true,
-        },
-    }
+    kind_number(one) == kind_number(other)
 }

@@ -8,7 +8,7 @@ use Rattle.frame.specs.Identification.{schedule1, classOf}
 use Rattle.frame.specs.Promises.{NotSafety}
 use Rattle.frame.specs.declared.Edition.{Edition}
 use Rattle.frame.specs.declared.Edition.the-variants.{First, AreaSafety}
-use Rattle.frame.specs.declared.Class.the-variants.{Warning, Safety, Undefined}
+use Rattle.frame.specs.declared.Class.the-variants.{Warning, Safety, Silent, Undefined}
 
 -- every edition has schedule 1 where an identification is not 5 or 6
 in-schedule1 : (ed : Edition) (i : ℕ) → NotSafety i → classOf ed i ≡ schedule1 i
@@ -24,6 +24,9 @@ warning-class ed i h = in-schedule1 ed i ((λ e. omega arith), (λ e. omega arit
 
 pub beyond : (ed : Edition) (i : ℕ) → 7 < i → classOf ed i ≡ Undefined
 beyond ed i h = in-schedule1 ed i ((λ e. omega arith), (λ e. omega arith)) ∙ rw (lt-leb i 3 (omega arith), ne-eqb i 7 (λ e. omega arith))
+
+pub silent-class : (ed : Edition) → classOf ed 7 ≡ Silent
+silent-class ed = in-schedule1 ed 7 ((λ e. omega arith), (λ e. omega arith))
 
 -- 5 and 6
 pub safety-class : (i : ℕ) → (i ≡ 5) ⊎ (i ≡ 6) → (classOf First i ≡ Undefined) × (classOf AreaSafety i ≡ Safety)

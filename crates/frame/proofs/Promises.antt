@@ -229,6 +229,17 @@ module _ (ed : Edition) where
     by-bit : (k : ℕ) → r .identification ≤ 3 → r .page ≡ 0 → k < 56 → warnedIn r k ≡ not (getD (bits (cleanOf f)) (56 + k) false)
     by-bit k w p h = warned-on-air ed r w p k h ∙ ap (λ (g : List ℕ). not (getD (bits g) (56 + k) false)) written-again
 
+    -- the record's identification is that of the repaired frame
+    pub read-identification : r .identification ≡ identificationIn (repairOf f .word)
+    unfolding recorded
+    read-identification =
+        let k = known f r d e in
+        let j = k .judged in
+        let c = wordBytes (j .word) in
+        sym (ap (λ (y : Record). y .identification) (k .is))
+        ∙ taken (bodyIn ed c) (fieldAt f 0 1) (j .pattern) (identificationIn c) (fieldAt c 19 2) (valuesIn ed c) .identification
+        ∙ ap (λ (a : Answer). identificationIn (a .word)) (sym (j .repaired))
+
     accepted : frameRefusal ed f ≡ 0
     accepted = judged-accepted ed f (known f r d e .judged)
 

@@ -1,10 +1,12 @@
 // What C and Rust programs call; include/gvozdyana.h declares it all.
 //
-// Every exported function takes any numbers and any bytes of any length. Most return a status: the refusal's number in the low 8 bits, 0 where there is none, and
+// Every exported function takes any numbers and any bytes of any length; where a frame or record is judged, the first number names the edition (0 the first, 1 area
+// safety, any other is taken for the first). Most return a status: the refusal's number in the low 8 bits, 0 where there is none, and
 // above them what else they tell; gvz_capture_source, gvz_capture_numbers and gvz_crc32 refuse nothing and return their answer itself. A record, word, place or
 // field buffer whose length is wrong is refusal 1, before anything else is looked at, and a refusal leaves every lent buffer as it was. The definitions stand in the
 // specs/ of the crates that are called.
 ghost use mathlib.Core.Path.{_≡_};
+ghost use Rattle.abi_edition.specs.Edition.{editionOf};
 ghost use Rattle.abi_repair.specs.Repair.{repairStatus, repairWord};
 ghost use Rattle.abi_frame.specs.Frame.{frameReadStatus, frameReadRecord, frameWriteStatus, frameWriteBytes, warnedStatus};
 ghost use Rattle.abi_place.specs.Place.{reportStatus, reportPlace, deskStatus, deskFields};
@@ -34,19 +36,19 @@ pub extern "C" fn gvz_repair_register(frame: &[u8], word: &mut [u8]) -> u32
 }
 
 #[no_mangle]
-pub extern "C" fn gvz_frame_read(frame: &[u8], values: &mut [u64]) -> u32
-    ensures { λ r. ⌜ r ≡ frameReadStatus (now (frame .entry)) (now (values .entry)) ⌝ }
-    ensures { λ _. ⌜ now (values .exit) ≡ frameReadRecord (now (frame .entry)) (now (values .entry)) ⌝ }
+pub extern "C" fn gvz_frame_read(edition: u32, frame: &[u8], values: &mut [u64]) -> u32
+    ensures { λ r. ⌜ r ≡ frameReadStatus (editionOf edition) (now (frame .entry)) (now (values .entry)) ⌝ }
+    ensures { λ _. ⌜ now (values .exit) ≡ frameReadRecord (editionOf edition) (now (frame .entry)) (now (values .entry)) ⌝ }
 {
-    abi_frame::frame_read(frame, values)
+    abi_frame::frame_read(edition, frame, values)
 }
 
 #[no_mangle]
-pub extern "C" fn gvz_frame_write(values: &[u64], frame: &mut [u8]) -> u32
-    ensures { λ r. ⌜ r ≡ frameWriteStatus (now (values .entry)) (now (frame .entry)) ⌝ }
-    ensures { λ _. ⌜ now (frame .exit) ≡ frameWriteBytes (now (values .entry)) (now (frame .entry)) ⌝ }
+pub extern "C" fn gvz_frame_write(edition: u32, values: &[u64], frame: &mut [u8]) -> u32
+    ensures { λ r. ⌜ r ≡ frameWriteStatus (editionOf edition) (now (values .entry)) (now (frame .entry)) ⌝ }
+    ensures { λ _. ⌜ now (frame .exit) ≡ frameWriteBytes (editionOf edition) (now (values .entry)) (now (frame .entry)) ⌝ }
 {
-    abi_frame::frame_write(values, frame)
+    abi_frame::frame_write(edition, values, frame)
 }
 
 #[no_mangle]
@@ -57,11 +59,11 @@ pub extern "C" fn gvz_warned(values: &[u64], area: u64) -> u32
 }
 
 #[no_mangle]
-pub extern "C" fn gvz_report(values: &[u64], place: &mut [f64]) -> u32
-    ensures { λ r. ⌜ r ≡ reportStatus (now (values .entry)) (now (place .entry)) ⌝ }
-    ensures { λ _. ⌜ now (place .exit) ≡ reportPlace (now (values .entry)) (now (place .entry)) ⌝ }
+pub extern "C" fn gvz_report(edition: u32, values: &[u64], place: &mut [f64]) -> u32
+    ensures { λ r. ⌜ r ≡ reportStatus (editionOf edition) (now (values .entry)) (now (place .entry)) ⌝ }
+    ensures { λ _. ⌜ now (place .exit) ≡ reportPlace (editionOf edition) (now (values .entry)) (now (place .entry)) ⌝ }
 {
-    abi_place::report(values, place)
+    abi_place::report(edition, values, place)
 }
 
 #[no_mangle]
@@ -73,24 +75,24 @@ pub extern "C" fn gvz_desk(latitude: f64, longitude: f64, depth: f64, fields: &m
 }
 
 #[no_mangle]
-pub extern "C" fn gvz_follow(state: u32, frame: &[u8]) -> u32
-    ensures { λ r. ⌜ r ≡ followStatus state (now (frame .entry)) ⌝ }
+pub extern "C" fn gvz_follow(edition: u32, state: u32, frame: &[u8]) -> u32
+    ensures { λ r. ⌜ r ≡ followStatus (editionOf edition) state (now (frame .entry)) ⌝ }
 {
-    abi_receiver::follow(state, frame)
+    abi_receiver::follow(edition, state, frame)
 }
 
 #[no_mangle]
-pub extern "C" fn gvz_capture_source(main: &[u8], spare: &[u8], n: u64) -> u32
-    ensures { λ r. ⌜ r ≡ captureSource (now (main .entry)) (now (spare .entry)) n ⌝ }
+pub extern "C" fn gvz_capture_source(edition: u32, main: &[u8], spare: &[u8], n: u64) -> u32
+    ensures { λ r. ⌜ r ≡ captureSource (editionOf edition) (now (main .entry)) (now (spare .entry)) n ⌝ }
 {
-    abi_receiver::capture_source(main, spare, n)
+    abi_receiver::capture_source(edition, main, spare, n)
 }
 
 #[no_mangle]
-pub extern "C" fn gvz_capture_numbers(main: &[u8], spare: &[u8], n: u64) -> u32
-    ensures { λ r. ⌜ r ≡ captureNumbers (now (main .entry)) (now (spare .entry)) n ⌝ }
+pub extern "C" fn gvz_capture_numbers(edition: u32, main: &[u8], spare: &[u8], n: u64) -> u32
+    ensures { λ r. ⌜ r ≡ captureNumbers (editionOf edition) (now (main .entry)) (now (spare .entry)) n ⌝ }
 {
-    abi_receiver::capture_numbers(main, spare, n)
+    abi_receiver::capture_numbers(edition, main, spare, n)
 }
 
 #[no_mangle]
@@ -110,11 +112,11 @@ pub extern "C" fn gvz_header_write(values: &[u64], header: &mut [u8]) -> u32
 }
 
 #[no_mangle]
-pub extern "C" fn gvz_lay_in(header: &mut [u8], frame: &[u8]) -> u32
-    ensures { λ r. ⌜ r ≡ layInStatus (now (header .entry)) (now (frame .entry)) ⌝ }
-    ensures { λ _. ⌜ now (header .exit) ≡ layInOf (now (header .entry)) (now (frame .entry)) ⌝ }
+pub extern "C" fn gvz_lay_in(edition: u32, header: &mut [u8], frame: &[u8]) -> u32
+    ensures { λ r. ⌜ r ≡ layInStatus (editionOf edition) (now (header .entry)) (now (frame .entry)) ⌝ }
+    ensures { λ _. ⌜ now (header .exit) ≡ layInOf (editionOf edition) (now (header .entry)) (now (frame .entry)) ⌝ }
 {
-    abi_laying::lay_in(header, frame)
+    abi_laying::lay_in(edition, header, frame)
 }
 
 #[no_mangle]

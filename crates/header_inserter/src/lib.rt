@@ -1,4 +1,4 @@
-// Laying a warning frame into a header, and taking it out. The rules are those of `header_laying`.
+// Laying a warning frame into a header, by the edition named, and taking it out. The rules are those of `header_laying`.
 ghost use mathlib.Core.Path.{_≡_};
 ghost use lib.ListN.{length};
 ghost use Rattle.bits.specs.Bits.{bits};
@@ -7,6 +7,7 @@ ghost use Rattle.header.specs.Header.{headerRefusal};
 ghost use Rattle.header_laying.specs.Laying.{withAc, layInNumber, layInOf, takeOutOf};
 ghost use Rattle.header_tables.specs.AcTables.{acWidths};
 ghost use Rattle.header_inserter.specs.AcBits.{withFirst};
+use frame::Edition;
 
 // The first 204 bits of a frame.
 fn ac_values(frame: &[u8; 26]) -> [u64; 26]
@@ -37,15 +38,15 @@ fn put_into(header: &mut [u8], values: &[u64; 26])
 }
 
 // The repaired 204 bits of a frame into a header. The header is tested fully, then the frame; a refusal changes nothing.
-pub fn lay_in(header: &mut [u8], frame: &[u8]) -> u8
-    ensures number { λ r. ⌜ r ≡ layInNumber (now (header .entry)) (now (frame .entry)) ⌝ }
-    ensures header { λ _. ⌜ now (header .exit) ≡ layInOf (now (header .entry)) (now (frame .entry)) ⌝ }
+pub fn lay_in(edition: Edition, header: &mut [u8], frame: &[u8]) -> u8
+    ensures number { λ r. ⌜ r ≡ layInNumber edition (now (header .entry)) (now (frame .entry)) ⌝ }
+    ensures header { λ _. ⌜ now (header .exit) ≡ layInOf edition (now (header .entry)) (now (frame .entry)) ⌝ }
 {
     let number = header_reader::refusal(header);
     if number != 0 {
         return number;
     }
-    let cleaned = frame_reader::clean(frame);
+    let cleaned = frame_reader::clean(edition, frame);
     if cleaned.number != 0 {
         return cleaned.number;
     }

@@ -14,7 +14,10 @@ use Rattle.bits.specs.Refusal.{firstRefusal, orElse}
 use Rattle.bits.proofs.Bits.{length-bits, length-bytes, bytes-bits, bytes-Bytes}
 use Rattle.gf2.specs.Polynomial.{zeros, add}
 use Rattle.sync_pattern.specs.Pattern.{patternBits, differingFrom, syncOf}
-use Rattle.frame.specs.Read.{noDamage, frameRefusal, judgeOf, readOf, cleanOf}
+use Rattle.dsc.specs.Repair.{repairOf}
+use Rattle.frame.specs.Read.{identificationIn, noDamage, frameRefusal, judgeOf, readOf, cleanOf}
+use Rattle.frame.specs.Promises.{NotSafety}
+use Rattle.frame.specs.declared.Edition.{Edition}
 use Rattle.frame.specs.Write.{frameOf, Legal}
 use Rattle.frame.specs.declared.Record.{Record}
 use Rattle.frame.specs.declared.Damage.{Damage}
@@ -23,16 +26,12 @@ use Rattle.frame.specs.declared.Reading.the-variants.{Accepted}
 use Rattle.frame.proofs.Parts.{take-drop-take}
 use Rattle.frame.proofs.Frames.{parts-frame}
 use Rattle.frame.proofs.Promises as frame
+use Rattle.frame.proofs.Editions.{editions}
 use Rattle.header.specs.Header.{frontIn, headerRefusal}
 use Rattle.header.proofs.Headers as headers
 use Rattle.header_laying.specs.Laying.{acBits, withAc, repairedBits, layInNumber, layInOf, takeOutOf}
-use Rattle.header_laying.specs.Promises.{SameOutsideAc, Laying}
+use Rattle.header_laying.specs.Promises.{SameOutsideAc, Laying, TakingOut}
 use Rattle.header_laying.proofs.Laying.{withAc-bits, withAc-frontIn, withAc-outside, withAc-again, withAc-accepted, withAc-own}
-
--- an empty header is refused with 1 and 26 zero bytes with 3: the answer is the header's number
-both-refused : layInNumber [] (replicate 26 0) ≡ 1
-unfolding layInNumber headerRefusal frameRefusal firstRefusal syncOf differingFrom add bits bitsOf odd value digit
-both-refused = refl
 
 -- a header that is changed only where nothing is refused
 changed : (P : List ℕ → Type 0) (n : ℕ) (x y : List ℕ) → (n ≡ 0 → P x) → P y → P (cond (eqb n 0) x y)
@@ -48,27 +47,6 @@ none-refused m n e = go (eqb m 0) refl e
     go : (t : Bool) → eqb m 0 ≡ t → cond t n m ≡ 0 → (m ≡ 0) × (n ≡ 0)
     go true q z = (eqb-true m 0 q, z)
     go false q z = absurd (eqb-false m 0 q z)
-
-module _ (h f : List ℕ) where
-  laid-none : layInNumber h f ≡ 0 → (headerRefusal h ≡ 0) × (frameRefusal f ≡ 0)
-  unfolding layInNumber
-  laid-none e = none-refused (headerRefusal h) (frameRefusal f) e
-
-  header-first : headerRefusal h ≢ 0 → layInNumber h f ≡ headerRefusal h
-  unfolding layInNumber
-  header-first n = rw (ne-eqb (headerRefusal h) 0 n)
-
-  then-frame : headerRefusal h ≡ 0 → layInNumber h f ≡ frameRefusal f
-  unfolding layInNumber
-  then-frame e = rw e
-
-  pub laid-with : layInNumber h f ≡ 0 → layInOf h f ≡ withAc h (repairedBits f)
-  unfolding layInOf
-  laid-with e = ap (λ (t : Bool). cond t (withAc h (repairedBits f)) h) (eq-eqb (layInNumber h f) 0 e)
-
-  laid-unchanged : layInNumber h f ≢ 0 → layInOf h f ≡ h
-  unfolding layInOf
-  laid-unchanged n = rw (ne-eqb (layInNumber h f) 0 n)
 
 pub taken-with : (h : List ℕ) → headerRefusal h ≡ 0 → takeOutOf h ≡ withAc h (replicate 204 true)
 unfolding takeOutOf
@@ -106,46 +84,6 @@ accepted-with h bs l e = headers.accepts (withAc h bs) (withAc-accepted h bs l (
 unchanged-outside : (h : List ℕ) → SameOutsideAc h h
 unchanged-outside h = record { size = refl; front = refl; rest = refl }
 
-module _ (h f : List ℕ) (e : layInNumber h f ≡ 0) where
-  header-accepted : headerRefusal h ≡ 0
-  header-accepted = laid-none h f e .0
-
-  laid-accepted : headerRefusal (layInOf h f) ≡ 0
-  laid-accepted = ap headerRefusal (laid-with h f e) ∙ accepted-with h (repairedBits f) (length-repaired f) header-accepted
-
-  laid-bits : acBits (layInOf h f) ≡ repairedBits f
-  laid-bits = ap acBits (laid-with h f e) ∙ withAc-bits h (repairedBits f) (size h header-accepted) (length-repaired f)
-
-  laid-twice : (g : List ℕ) → frameRefusal g ≡ 0 → layInOf (layInOf h f) g ≡ layInOf h g
-  laid-twice g k =
-      laid-with (layInOf h f) g (then-frame (layInOf h f) g laid-accepted ∙ k)
-      ∙ ap (λ (x : List ℕ). withAc x (repairedBits g)) (laid-with h f e)
-      ∙ withAc-again h (repairedBits f) (size h header-accepted) (length-repaired f) (repairedBits g)
-      ∙ sym (laid-with h g (then-frame h g header-accepted ∙ k))
-
-  taken-laid : takeOutOf (layInOf h f) ≡ takeOutOf h
-  taken-laid =
-      taken-with (layInOf h f) laid-accepted
-      ∙ ap (λ (x : List ℕ). withAc x (replicate 204 true)) (laid-with h f e)
-      ∙ withAc-again h (repairedBits f) (size h header-accepted) (length-repaired f) (replicate 204 true)
-      ∙ sym (taken-with h header-accepted)
-
-  back-again : Bytes h → acBits h ≡ replicate 204 true → takeOutOf (layInOf h f) ≡ h
-  back-again b o =
-      taken-laid ∙ taken-with h header-accepted ∙ ap (withAc h) (sym o) ∙ withAc-own h b (headers.accepted h header-accepted)
-
-laid-outside : (h f : List ℕ) → SameOutsideAc (layInOf h f) h
-unfolding layInOf
-laid-outside h f =
-    changed (λ (k : List ℕ). SameOutsideAc k h) (layInNumber h f) (withAc h (repairedBits f)) h
-    (λ e. withAc-outside h (repairedBits f) (size h (header-accepted h f e)) (length-repaired f)) (unchanged-outside h)
-
-laid-front : (h f : List ℕ) → frontIn (layInOf h f) ≡ frontIn h
-unfolding layInOf
-laid-front h f =
-    changed (λ (k : List ℕ). frontIn k ≡ frontIn h) (layInNumber h f) (withAc h (repairedBits f)) h
-    (λ e. withAc-frontIn h (repairedBits f) (size h (header-accepted h f e)) (length-repaired f)) refl
-
 taken-outside : (h : List ℕ) → SameOutsideAc (takeOutOf h) h
 unfolding takeOutOf
 taken-outside h =
@@ -158,61 +96,138 @@ taken-accepted h e = ap headerRefusal (taken-with h e) ∙ accepted-with h (repl
 taken-bits : (h : List ℕ) → headerRefusal h ≡ 0 → acBits (takeOutOf h) ≡ replicate 204 true
 taken-bits h e = ap acBits (taken-with h e) ∙ withAc-bits h (replicate 204 true) (size h e) length-ones
 
--- the repaired bits and the filler are the repaired frame
-repaired-frame : (f : List ℕ) (r : Record) → frameOf r ≡ cleanOf f → bytes 26 (repairedBits f ++ zeros 4) ≡ cleanOf f
-repaired-frame f r e =
-    let b = bits (cleanOf f) in
-    let l : length (drop 204 b) ≡ 4 = length-drop 204 b ∙ omega (arith, length-bits (cleanOf f), length-clean f) in
-    let filler : zeros 4 ≡ drop 204 b =
-    sym (subst (λ (g : List ℕ). take 4 (drop 204 (bits g)) ≡ zeros 4) e (parts-frame r .filler)) ∙ take-all 4 (drop 204 b) (omega arith) in
-    ap (λ (x : List Bool). bytes 26 (take 204 b ++ x)) filler
-    ∙ ap₂ bytes (sym (length-clean f)) (take-append-drop 204 b)
-    ∙ bytes-bits (cleanOf f) (Bytes-clean f)
+pub taking-out : TakingOut
+taking-out =
+    record { taken-accepted = taken-accepted; taken-bits = taken-bits; taken-outside = taken-outside; taken-unchanged = taken-unchanged }
 
-frame-accepted : (f : List ℕ) (r : Record) (d : Damage) → readOf f ≡ Accepted r d → frameRefusal f ≡ 0
-unfolding judgeOf
-frame-accepted f r d e = ap (λ (v : Verdict). v .number) (frame.demand2 .judged-accepted f r d e)
+-- ---- laying in
 
-laid-read : (h f : List ℕ) (r : Record) (d : Damage) → headerRefusal h ≡ 0 → readOf f ≡ Accepted r d
-    → readOf (bytes 26 (acBits (layInOf h f) ++ zeros 4)) ≡ Accepted r noDamage
-laid-read h f r d e a =
-    let n : layInNumber h f ≡ 0 = then-frame h f e ∙ frame-accepted f r d a in
-    ap (λ (x : List Bool). readOf (bytes 26 (x ++ zeros 4))) (laid-bits h f n)
-    ∙ ap readOf (repaired-frame f r (frame.demand2 .written-again f r d a))
-    ∙ frame.demand2 .mended-read f r d a
+module _ (ed : Edition) where
+  -- an empty header is refused with 1 and 26 zero bytes with 3: the answer is the header's number
+  both-refused : layInNumber ed [] (replicate 26 0) ≡ 1
+  unfolding layInNumber headerRefusal frameRefusal firstRefusal syncOf differingFrom add bits bitsOf odd value digit
+  both-refused = refl
 
-laid-pattern : (h f : List ℕ) (r : Record) (d : Damage) → headerRefusal h ≡ 0 → readOf f ≡ Accepted r d
-    → take 16 (drop 1 (acBits (layInOf h f))) ≡ patternBits (r .pattern)
-laid-pattern h f r d e a =
-    let n : layInNumber h f ≡ 0 = then-frame h f e ∙ frame-accepted f r d a in
-    ap (λ (x : List Bool). take 16 (drop 1 x)) (laid-bits h f n)
-    ∙ take-drop-take 16 1 204 (bits (cleanOf f)) (omega arith)
-    ∙ frame.demand2 .mended f r d a .pattern
+  module _ (h f : List ℕ) where
+    laid-none : layInNumber ed h f ≡ 0 → (headerRefusal h ≡ 0) × (frameRefusal ed f ≡ 0)
+    unfolding layInNumber
+    laid-none e = none-refused (headerRefusal h) (frameRefusal ed f) e
 
--- an undamaged frame is laid in as it stands
-pub laid-own : (h : List ℕ) (r : Record) → headerRefusal h ≡ 0 → Legal r → layInOf h (frameOf r) ≡ withAc h (take 204 (bits (frameOf r)))
-laid-own h r e l =
-    let back = frame.demand2 .comes-back r l in
-    laid-with h (frameOf r) (then-frame h (frameOf r) e ∙ frame-accepted (frameOf r) r noDamage back)
-    ∙ ap (λ (g : List ℕ). withAc h (take 204 (bits g))) (sym (frame.demand2 .written-again (frameOf r) r noDamage back))
+    header-first : headerRefusal h ≢ 0 → layInNumber ed h f ≡ headerRefusal h
+    unfolding layInNumber
+    header-first n = rw (ne-eqb (headerRefusal h) 0 n)
 
-pub laying : Laying
-laying =
-    record {
-      laid-accepted = laid-accepted;
-      laid-bits = laid-bits;
-      laid-read = laid-read;
-      laid-pattern = laid-pattern;
-      laid-outside = laid-outside;
-      laid-front = laid-front;
-      laid-twice = λ h f g e k. laid-twice h f e g k;
-      taken-accepted = taken-accepted;
-      taken-bits = taken-bits;
-      taken-outside = taken-outside;
-      taken-laid = taken-laid;
-      back-again = λ h f b o e. back-again h f e b o;
-      header-first = header-first;
-      then-frame = then-frame;
-      laid-unchanged = laid-unchanged;
-      taken-unchanged = taken-unchanged;
-    }
+    then-frame : headerRefusal h ≡ 0 → layInNumber ed h f ≡ frameRefusal ed f
+    unfolding layInNumber
+    then-frame e = rw e
+
+    pub laid-with : layInNumber ed h f ≡ 0 → layInOf ed h f ≡ withAc h (repairedBits f)
+    unfolding layInOf
+    laid-with e = ap (λ (t : Bool). cond t (withAc h (repairedBits f)) h) (eq-eqb (layInNumber ed h f) 0 e)
+
+    laid-unchanged : layInNumber ed h f ≢ 0 → layInOf ed h f ≡ h
+    unfolding layInOf
+    laid-unchanged n = rw (ne-eqb (layInNumber ed h f) 0 n)
+
+  module _ (h f : List ℕ) (e : layInNumber ed h f ≡ 0) where
+    header-accepted : headerRefusal h ≡ 0
+    header-accepted = laid-none h f e .0
+
+    laid-accepted : headerRefusal (layInOf ed h f) ≡ 0
+    laid-accepted = ap headerRefusal (laid-with h f e) ∙ accepted-with h (repairedBits f) (length-repaired f) header-accepted
+
+    laid-bits : acBits (layInOf ed h f) ≡ repairedBits f
+    laid-bits = ap acBits (laid-with h f e) ∙ withAc-bits h (repairedBits f) (size h header-accepted) (length-repaired f)
+
+    laid-twice : (g : List ℕ) → frameRefusal ed g ≡ 0 → layInOf ed (layInOf ed h f) g ≡ layInOf ed h g
+    laid-twice g k =
+        laid-with (layInOf ed h f) g (then-frame (layInOf ed h f) g laid-accepted ∙ k)
+        ∙ ap (λ (x : List ℕ). withAc x (repairedBits g)) (laid-with h f e)
+        ∙ withAc-again h (repairedBits f) (size h header-accepted) (length-repaired f) (repairedBits g)
+        ∙ sym (laid-with h g (then-frame h g header-accepted ∙ k))
+
+    taken-laid : takeOutOf (layInOf ed h f) ≡ takeOutOf h
+    taken-laid =
+        taken-with (layInOf ed h f) laid-accepted
+        ∙ ap (λ (x : List ℕ). withAc x (replicate 204 true)) (laid-with h f e)
+        ∙ withAc-again h (repairedBits f) (size h header-accepted) (length-repaired f) (replicate 204 true)
+        ∙ sym (taken-with h header-accepted)
+
+    back-again : Bytes h → acBits h ≡ replicate 204 true → takeOutOf (layInOf ed h f) ≡ h
+    back-again b o =
+        taken-laid ∙ taken-with h header-accepted ∙ ap (withAc h) (sym o) ∙ withAc-own h b (headers.accepted h header-accepted)
+
+  laid-outside : (h f : List ℕ) → SameOutsideAc (layInOf ed h f) h
+  unfolding layInOf
+  laid-outside h f =
+      changed (λ (k : List ℕ). SameOutsideAc k h) (layInNumber ed h f) (withAc h (repairedBits f)) h
+      (λ e. withAc-outside h (repairedBits f) (size h (header-accepted h f e)) (length-repaired f)) (unchanged-outside h)
+
+  laid-front : (h f : List ℕ) → frontIn (layInOf ed h f) ≡ frontIn h
+  unfolding layInOf
+  laid-front h f =
+      changed (λ (k : List ℕ). frontIn k ≡ frontIn h) (layInNumber ed h f) (withAc h (repairedBits f)) h
+      (λ e. withAc-frontIn h (repairedBits f) (size h (header-accepted h f e)) (length-repaired f)) refl
+
+  -- the repaired bits and the filler are the repaired frame
+  repaired-frame : (f : List ℕ) (r : Record) → frameOf ed r ≡ cleanOf f → bytes 26 (repairedBits f ++ zeros 4) ≡ cleanOf f
+  repaired-frame f r e =
+      let b = bits (cleanOf f) in
+      let l : length (drop 204 b) ≡ 4 = length-drop 204 b ∙ omega (arith, length-bits (cleanOf f), length-clean f) in
+      let filler : zeros 4 ≡ drop 204 b =
+      sym (subst (λ (g : List ℕ). take 4 (drop 204 (bits g)) ≡ zeros 4) e (parts-frame ed r .filler)) ∙ take-all 4 (drop 204 b) (omega arith) in
+      ap (λ (x : List Bool). bytes 26 (take 204 b ++ x)) filler
+      ∙ ap₂ bytes (sym (length-clean f)) (take-append-drop 204 b)
+      ∙ bytes-bits (cleanOf f) (Bytes-clean f)
+
+  frame-accepted : (f : List ℕ) (r : Record) (d : Damage) → readOf ed f ≡ Accepted r d → frameRefusal ed f ≡ 0
+  unfolding judgeOf
+  frame-accepted f r d e = ap (λ (v : Verdict). v .number) (frame.demand2 ed .judged-accepted f r d e)
+
+  laid-read : (h f : List ℕ) (r : Record) (d : Damage) → headerRefusal h ≡ 0 → readOf ed f ≡ Accepted r d
+      → readOf ed (bytes 26 (acBits (layInOf ed h f) ++ zeros 4)) ≡ Accepted r noDamage
+  laid-read h f r d e a =
+      let n : layInNumber ed h f ≡ 0 = then-frame h f e ∙ frame-accepted f r d a in
+      ap (λ (x : List Bool). readOf ed (bytes 26 (x ++ zeros 4))) (laid-bits h f n)
+      ∙ ap (readOf ed) (repaired-frame f r (frame.demand2 ed .written-again f r d a))
+      ∙ frame.demand2 ed .mended-read f r d a
+
+  laid-pattern : (h f : List ℕ) (r : Record) (d : Damage) → headerRefusal h ≡ 0 → readOf ed f ≡ Accepted r d
+      → take 16 (drop 1 (acBits (layInOf ed h f))) ≡ patternBits (r .pattern)
+  laid-pattern h f r d e a =
+      let n : layInNumber ed h f ≡ 0 = then-frame h f e ∙ frame-accepted f r d a in
+      ap (λ (x : List Bool). take 16 (drop 1 x)) (laid-bits h f n)
+      ∙ take-drop-take 16 1 204 (bits (cleanOf f)) (omega arith)
+      ∙ frame.demand2 ed .mended f r d a .pattern
+
+  -- an undamaged frame is laid in as it stands
+  pub laid-own : (h : List ℕ) (r : Record) → headerRefusal h ≡ 0 → Legal ed r → layInOf ed h (frameOf ed r) ≡ withAc h (take 204 (bits (frameOf ed r)))
+  laid-own h r e l =
+      let back = frame.demand2 ed .comes-back r l in
+      laid-with h (frameOf ed r) (then-frame h (frameOf ed r) e ∙ frame-accepted (frameOf ed r) r noDamage back)
+      ∙ ap (λ (g : List ℕ). withAc h (take 204 (bits g))) (sym (frame.demand2 ed .written-again (frameOf ed r) r noDamage back))
+
+  alike : (other : Edition) (h f : List ℕ) → NotSafety (identificationIn (repairOf f .word))
+      → (layInNumber ed h f ≡ layInNumber other h f) × (layInOf ed h f ≡ layInOf other h f)
+  unfolding layInNumber layInOf judgeOf
+  alike other h f n =
+      let same : frameRefusal ed f ≡ frameRefusal other f = ap (λ (v : Verdict). v .number) (editions .frame-alike ed other f n .judged) in
+      rw same (refl, refl)
+
+  pub laying : Laying ed
+  laying =
+      record {
+        laid-accepted = laid-accepted;
+        laid-bits = laid-bits;
+        laid-read = laid-read;
+        laid-pattern = laid-pattern;
+        laid-outside = laid-outside;
+        laid-front = laid-front;
+        laid-twice = λ h f g e k. laid-twice h f e g k;
+        taken-laid = taken-laid;
+        back-again = λ h f b o e. back-again h f e b o;
+        header-first = header-first;
+        then-frame = then-frame;
+        laid-unchanged = laid-unchanged;
+        laid-alike = alike;
+      }

@@ -4,6 +4,7 @@ use lib.ListN.{take, drop}
 use Rattle.bits.specs.Bits.{bits, digit, odd, value, bitsOf, bytes}
 use Rattle.frame.specs.Write.{frameOf, announced, messageBits, Legal, recordRefusal}
 use Rattle.frame.specs.Worked.{areaRecord}
+use Rattle.frame.specs.declared.Edition.the-variants.{First}
 use Rattle.header.specs.Header.{headerOf, sealed}
 use Rattle.header.specs.Worked.{sample}
 use Rattle.header.proofs.Worked as header
@@ -24,16 +25,16 @@ use Rattle.header_laying.specs.Worked.{Worked}
 use Rattle.header_laying.proofs.Promises.{laid-own}
 
 -- the warning for all areas is a legal record
-warning-legal : Legal (areaRecord 0)
+warning-legal : Legal First (areaRecord 0)
 unfolding areaRecord recordRefusal firstRefusal classOf row layout scatter fieldWidths freeWidths
 warning-legal = refl
 
-crc-with-frame : drop 184 (withAc (headerOf (sample 0x47000000 1 0)) (take 204 (bits (frameOf (areaRecord 0))))) ≡ 0xB0 ∷ 0xAC ∷ 0x5A ∷ 0x53 ∷ []
+crc-with-frame : drop 184 (withAc (headerOf (sample 0x47000000 1 0)) (take 204 (bits (frameOf First (areaRecord 0))))) ≡ 0xB0 ∷ 0xAC ∷ 0x5A ∷ 0x53 ∷ []
 unfolding add scale remainder digit odd value bitsOf bits bytes pack widths withFixed crc crc32 frontLayout extensionLayout pairs frontFields extensionFields sealed headerOf sample withAc poly member checkBits crc10 powers generatorLow parityOf classOf row layout gather bodyValues announced messageBits frameOf areaRecord
 crc-with-frame = refl
 
-laid : layInOf (headerOf (sample 0x47000000 1 0)) (frameOf (areaRecord 0)) ≡ withAc (headerOf (sample 0x47000000 1 0)) (take 204 (bits (frameOf (areaRecord 0))))
-laid = laid-own (headerOf (sample 0x47000000 1 0)) (areaRecord 0) (header.worked .accepted) warning-legal
+laid : layInOf First (headerOf (sample 0x47000000 1 0)) (frameOf First (areaRecord 0)) ≡ withAc (headerOf (sample 0x47000000 1 0)) (take 204 (bits (frameOf First (areaRecord 0))))
+laid = laid-own First (headerOf (sample 0x47000000 1 0)) (areaRecord 0) (header.worked .accepted) warning-legal
 
 pub worked : Worked
 worked = record { crc-laid = ap (drop 184) laid ∙ crc-with-frame }

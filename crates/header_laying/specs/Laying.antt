@@ -1,4 +1,4 @@
--- Laying a frame into a header, and taking it out (document 01, "The cable header"). Assumes nothing.
+-- Laying a frame into a header, and taking it out (document 01, "The cable header"; document 02, a). Assumes nothing.
 use mathlib.Core.Bool.{Bool, true, cond}
 use mathlib.Core.List.{List, _++_}
 use Prim.Native.Nat.{ℕ}
@@ -7,6 +7,7 @@ use lib.ListN.{take, drop, replicate}
 use Rattle.bits.specs.Bits.{bits, bytes}
 use Rattle.bits.specs.Refusal.{orElse}
 use Rattle.frame.specs.Read.{frameRefusal, cleanOf}
+use Rattle.frame.specs.declared.Edition.{Edition}
 use Rattle.header.specs.Header.{headerRefusal, sealed}
 
 -- the 204 bits of the AC frame in a header, from byte 99 on
@@ -21,13 +22,13 @@ withAc h bs = sealed (take 99 h ++ bytes 85 (bs ++ drop 204 (bits (take 85 (drop
 abbrev pub repairedBits : List ℕ → List Bool
 repairedBits f = take 204 (bits (cleanOf f))
 
--- what `lay_in` answers: the header is tested fully, then the frame
-unfoldable pub layInNumber : (header frame : List ℕ) → ℕ
-layInNumber h f = orElse (headerRefusal h) (frameRefusal f)
+-- what `lay_in` answers: the header is tested fully, then the frame by the edition named
+unfoldable pub layInNumber : Edition → (header frame : List ℕ) → ℕ
+layInNumber ed h f = orElse (headerRefusal h) (frameRefusal ed f)
 
 -- and what it leaves in the header
-unfoldable pub layInOf : (header frame : List ℕ) → List ℕ
-layInOf h f = cond (eqb (layInNumber h f) 0) (withAc h (repairedBits f)) h
+unfoldable pub layInOf : Edition → (header frame : List ℕ) → List ℕ
+layInOf ed h f = cond (eqb (layInNumber ed h f) 0) (withAc h (repairedBits f)) h
 
 -- `take_out` tests the header alone, and writes 204 ones and the CRC instead
 unfoldable pub takeOutOf : List ℕ → List ℕ

@@ -1,4 +1,5 @@
--- What laying in and taking out promise, in the words of demand 2 and of document 01. The record has one value, proved in proofs/Promises.antt. Assumes nothing.
+-- What laying in and taking out promise, in the words of demand 2 and of documents 01 and 02, a) and e). The records have one value each, `Laying` for every
+-- edition, proved in proofs/Promises.antt. Assumes nothing.
 use mathlib.Core.Path.{_≡_}
 use mathlib.Core.Bool.{true}
 use mathlib.Core.Logic.{_≢_}
@@ -7,7 +8,10 @@ use Prim.Native.Nat.{ℕ}
 use lib.ListN.{length, take, drop, replicate}
 use Rattle.bits.specs.Bits.{bits, bytes, Bytes}
 use Rattle.gf2.specs.Polynomial.{zeros}
-use Rattle.frame.specs.Read.{noDamage, readOf, frameRefusal}
+use Rattle.dsc.specs.Repair.{repairOf}
+use Rattle.frame.specs.Read.{identificationIn, noDamage, readOf, frameRefusal}
+use Rattle.frame.specs.Promises.{NotSafety}
+use Rattle.frame.specs.declared.Edition.{Edition}
 use Rattle.sync_pattern.specs.Pattern.{patternBits}
 use Rattle.frame.specs.declared.Record.{Record}
 use Rattle.frame.specs.declared.Damage.{Damage}
@@ -23,33 +27,39 @@ pub record SameOutsideAc (h k : List ℕ) : Type 0 where
   -- the low half of byte 124, and bytes 125 to 183
   pub rest : take 476 (drop 996 (bits h)) ≡ take 476 (drop 996 (bits k))
 
-pub record Laying : Type 0 where
+pub record Laying (ed : Edition) : Type 0 where
   -- after laying in the header is accepted
-  pub laid-accepted : (h f : List ℕ) → layInNumber h f ≡ 0 → headerRefusal (layInOf h f) ≡ 0
+  pub laid-accepted : (h f : List ℕ) → layInNumber ed h f ≡ 0 → headerRefusal (layInOf ed h f) ≡ 0
   -- and its 204 bits are the frame's repaired ones
-  pub laid-bits : (h f : List ℕ) → layInNumber h f ≡ 0 → acBits (layInOf h f) ≡ repairedBits f
+  pub laid-bits : (h f : List ℕ) → layInNumber ed h f ≡ 0 → acBits (layInOf ed h f) ≡ repairedBits f
   -- so that, with the filler, they are read as the frame's record
-  pub laid-read : (h f : List ℕ) (r : Record) (d : Damage) → headerRefusal h ≡ 0 → readOf f ≡ Accepted r d
-      → readOf (bytes 26 (acBits (layInOf h f) ++ zeros 4)) ≡ Accepted r noDamage
+  pub laid-read : (h f : List ℕ) (r : Record) (d : Damage) → headerRefusal h ≡ 0 → readOf ed f ≡ Accepted r d
+      → readOf ed (bytes 26 (acBits (layInOf ed h f) ++ zeros 4)) ≡ Accepted r noDamage
   -- and B1 to B16 are the clean pattern, whatever bits of them differed
-  pub laid-pattern : (h f : List ℕ) (r : Record) (d : Damage) → headerRefusal h ≡ 0 → readOf f ≡ Accepted r d
-      → take 16 (drop 1 (acBits (layInOf h f))) ≡ patternBits (r .pattern)
+  pub laid-pattern : (h f : List ℕ) (r : Record) (d : Damage) → headerRefusal h ≡ 0 → readOf ed f ≡ Accepted r d
+      → take 16 (drop 1 (acBits (layInOf ed h f))) ≡ patternBits (r .pattern)
   -- everything else stays, the change number too
-  pub laid-outside : (h f : List ℕ) → SameOutsideAc (layInOf h f) h
-  pub laid-front : (h f : List ℕ) → frontIn (layInOf h f) ≡ frontIn h
+  pub laid-outside : (h f : List ℕ) → SameOutsideAc (layInOf ed h f) h
+  pub laid-front : (h f : List ℕ) → frontIn (layInOf ed h f) ≡ frontIn h
   -- laying in twice is laying in the second
-  pub laid-twice : (h f g : List ℕ) → layInNumber h f ≡ 0 → frameRefusal g ≡ 0 → layInOf (layInOf h f) g ≡ layInOf h g
+  pub laid-twice : (h f g : List ℕ) → layInNumber ed h f ≡ 0 → frameRefusal ed g ≡ 0 → layInOf ed (layInOf ed h f) g ≡ layInOf ed h g
+  -- taking out after laying in is taking out alone
+  pub taken-laid : (h f : List ℕ) → layInNumber ed h f ≡ 0 → takeOutOf (layInOf ed h f) ≡ takeOutOf h
+  -- so that a header that carried no frame comes back byte for byte
+  pub back-again : (h f : List ℕ) → Bytes h → acBits h ≡ replicate 204 true → layInNumber ed h f ≡ 0 → takeOutOf (layInOf ed h f) ≡ h
+  -- the header is tested before the frame
+  pub header-first : (h f : List ℕ) → headerRefusal h ≢ 0 → layInNumber ed h f ≡ headerRefusal h
+  pub then-frame : (h f : List ℕ) → headerRefusal h ≡ 0 → layInNumber ed h f ≡ frameRefusal ed f
+  -- a refusal changes nothing
+  pub laid-unchanged : (h f : List ℕ) → layInNumber ed h f ≢ 0 → layInOf ed h f ≡ h
+  -- which edition is named does not matter to a frame whose repaired identification is not 5 or 6
+  pub laid-alike : (other : Edition) (h f : List ℕ) → NotSafety (identificationIn (repairOf f .word))
+      → (layInNumber ed h f ≡ layInNumber other h f) × (layInOf ed h f ≡ layInOf other h f)
+
+pub record TakingOut : Type 0 where
   -- taking out leaves 204 ones in an accepted header, and all else as it was
   pub taken-accepted : (h : List ℕ) → headerRefusal h ≡ 0 → headerRefusal (takeOutOf h) ≡ 0
   pub taken-bits : (h : List ℕ) → headerRefusal h ≡ 0 → acBits (takeOutOf h) ≡ replicate 204 true
   pub taken-outside : (h : List ℕ) → SameOutsideAc (takeOutOf h) h
-  -- taking out after laying in is taking out alone
-  pub taken-laid : (h f : List ℕ) → layInNumber h f ≡ 0 → takeOutOf (layInOf h f) ≡ takeOutOf h
-  -- so that a header that carried no frame comes back byte for byte
-  pub back-again : (h f : List ℕ) → Bytes h → acBits h ≡ replicate 204 true → layInNumber h f ≡ 0 → takeOutOf (layInOf h f) ≡ h
-  -- the header is tested before the frame
-  pub header-first : (h f : List ℕ) → headerRefusal h ≢ 0 → layInNumber h f ≡ headerRefusal h
-  pub then-frame : (h f : List ℕ) → headerRefusal h ≡ 0 → layInNumber h f ≡ frameRefusal f
   -- a refusal changes nothing
-  pub laid-unchanged : (h f : List ℕ) → layInNumber h f ≢ 0 → layInOf h f ≡ h
   pub taken-unchanged : (h : List ℕ) → headerRefusal h ≢ 0 → takeOutOf h ≡ h

@@ -4,10 +4,11 @@ use mathlib.Core.List.{[], _∷_}
 use lib.ListN.{drop}
 use Rattle.frame.specs.Write.{frameOf}
 use Rattle.frame.specs.Worked.{areaRecord}
+use Rattle.frame.specs.declared.Edition.the-variants.{First}
 use Rattle.header.specs.Header.{headerOf}
 use Rattle.header.specs.Worked.{sample}
 use Rattle.header_laying.specs.Laying.{layInOf}
 
 pub record Worked : Type 0 where
   -- with the warning for all areas
-  pub crc-laid : drop 184 (layInOf (headerOf (sample 0x47000000 1 0)) (frameOf (areaRecord 0))) ≡ 0xB0 ∷ 0xAC ∷ 0x5A ∷ 0x53 ∷ []
+  pub crc-laid : drop 184 (layInOf First (headerOf (sample 0x47000000 1 0)) (frameOf First (areaRecord 0))) ≡ 0xB0 ∷ 0xAC ∷ 0x5A ∷ 0x53 ∷ []

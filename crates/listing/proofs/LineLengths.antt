@@ -8,6 +8,7 @@ use lib.Dec.{eqb, leb}
 use lib.ListN.{length, take, drop, length-append}
 use borrow.Author.Tests.{leb-true}
 use Rattle.frame.specs.Read.{judgeOf}
+use Rattle.frame.specs.declared.Edition.{Edition}
 use Rattle.frame.specs.declared.Verdict.{Verdict}
 use Rattle.decimals.specs.Decimal.{decimal}
 use Rattle.listing.specs.Lines.{placesText, lineOf, endLine, pieceCount, lines, listCount, endCount}
@@ -30,27 +31,28 @@ pub length-end : (n : ℕ) → n < 18446744073709551616 → length (endLine n) �
 unfolding endLine
 length-end n h = simp length-append (omega (arith, length-word n h))
 
-pub line-short : (n : ℕ) (f : List ℕ) → n < 18446744073709551616 → length (lineOf n (judgeOf f)) ≤ 32
-unfolding judgeOf
-line-short n f h = length-line n (judgeOf f) h (omega (arith, refusal-small f)) (omega (arith, places-small f))
+module _ (ed : Edition) where
+  pub line-short : (n : ℕ) (f : List ℕ) → n < 18446744073709551616 → length (lineOf n (judgeOf ed f)) ≤ 32
+  unfolding judgeOf
+  line-short n f h = length-line n (judgeOf ed f) h (omega (arith, refusal-small ed f)) (omega (arith, places-small ed f))
 
-pub length-lines : (k n : ℕ) (s : List ℕ) → n + k < 18446744073709551616 → length (lines k n s) ≤ 32 * k
-unfolding lines
-length-lines zero n s h = omega arith
-length-lines (suc k) n s h =
-    simp length-append (omega (arith, line-short n (take 26 s) (omega arith), length-lines k (n + 1) (drop 26 s) (omega arith)))
+  pub length-lines : (k n : ℕ) (s : List ℕ) → n + k < 18446744073709551616 → length (lines ed k n s) ≤ 32 * k
+  unfolding lines
+  length-lines zero n s h = omega arith
+  length-lines (suc k) n s h =
+      simp length-append (omega (arith, line-short n (take 26 s) (omega arith), length-lines k (n + 1) (drop 26 s) (omega arith)))
 
--- what `list` answers is at most the buffer's length, and what `end` answers is at most 32
-pub list-within : (s : List ℕ) (n m j : ℕ) → j ≡ listCount s n m → n + length s < 18446744073709551616 → j ≤ m
-unfolding listCount
-list-within s n m j e h = rw e (go (leb (32 * k) m) refl)
-  where
-    k : ℕ
-    k = pieceCount (length s)
+  -- what `list` answers is at most the buffer's length, and what `end` answers is at most 32
+  pub list-within : (s : List ℕ) (n m j : ℕ) → j ≡ listCount ed s n m → n + length s < 18446744073709551616 → j ≤ m
+  unfolding listCount
+  list-within s n m j e h = rw e (go (leb (32 * k) m) refl)
+    where
+      k : ℕ
+      k = pieceCount (length s)
 
-    go : (t : Bool) → leb (32 * k) m ≡ t → cond t (length (lines k n s)) 0 ≤ m
-    go true q = omega (arith, leb-true (32 * k) m q, length-lines k n s (omega arith))
-    go false q = omega arith
+      go : (t : Bool) → leb (32 * k) m ≡ t → cond t (length (lines ed k n s)) 0 ≤ m
+      go true q = omega (arith, leb-true (32 * k) m q, length-lines k n s (omega arith))
+      go false q = omega arith
 
 pub end-within : (n m j : ℕ) → j ≡ endCount n m → n < 18446744073709551616 → j ≤ 32
 unfolding endCount

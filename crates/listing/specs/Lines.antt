@@ -1,10 +1,11 @@
--- The listing (document 01, "The listing"), as bytes. Assumes nothing.
+-- The listing (document 01, "The listing"; document 02, a), as bytes, by the edition named. Assumes nothing.
 use mathlib.Core.Bool.{cond}
 use mathlib.Core.List.{List, [], _∷_, _++_}
 use Prim.Native.Nat.{ℕ, zero, suc, _+_, _*_, _/_, min}
 use lib.Dec.{eqb, leb}
 use lib.ListN.{length, take, drop}
 use Rattle.frame.specs.Read.{judgeOf}
+use Rattle.frame.specs.declared.Edition.{Edition}
 use Rattle.frame.specs.declared.Verdict.{Verdict}
 use Rattle.decimals.specs.Decimal.{decimal}
 
@@ -25,23 +26,23 @@ abbrev pub pieceCount : ℕ → ℕ
 pieceCount n = (n + 25) / 26
 
 -- the lines of the first k pieces of s, numbered from n on
-unfoldable pub lines : (k n : ℕ) → List ℕ → List ℕ
-lines zero n s = []
-lines (suc k) n s = lineOf n (judgeOf (take 26 s)) ++ lines k (n + 1) (drop 26 s)
+unfoldable pub lines : Edition → (k n : ℕ) → List ℕ → List ℕ
+lines ed zero n s = []
+lines ed (suc k) n s = lineOf n (judgeOf ed (take 26 s)) ++ lines ed k (n + 1) (drop 26 s)
 
 -- the whole text for an input: reading stops after frame 999,999
-unfoldable pub listingOf : List ℕ → List ℕ
-listingOf s = lines (min (pieceCount (length s)) 999999) 1 s ++ endLine (min (pieceCount (length s)) 999999)
+unfoldable pub listingOf : Edition → List ℕ → List ℕ
+listingOf ed s = lines ed (min (pieceCount (length s)) 999999) 1 s ++ endLine (min (pieceCount (length s)) 999999)
 
 -- what `list` answers, for the lines of all pieces of s into a buffer of m bytes: 0 where it has not 32 bytes for each of them
-unfoldable pub listCount : (s : List ℕ) (n m : ℕ) → ℕ
-listCount s n m = cond (leb (32 * pieceCount (length s)) m) (length (lines (pieceCount (length s)) n s)) 0
+unfoldable pub listCount : Edition → (s : List ℕ) (n m : ℕ) → ℕ
+listCount ed s n m = cond (leb (32 * pieceCount (length s)) m) (length (lines ed (pieceCount (length s)) n s)) 0
 
 -- and what it leaves in the buffer
-unfoldable pub listOf : (s : List ℕ) (n : ℕ) → List ℕ → List ℕ
-listOf s n out =
+unfoldable pub listOf : Edition → (s : List ℕ) (n : ℕ) → List ℕ → List ℕ
+listOf ed s n out =
     cond (leb (32 * pieceCount (length s)) (length out))
-    (lines (pieceCount (length s)) n s ++ drop (length (lines (pieceCount (length s)) n s)) out) out
+    (lines ed (pieceCount (length s)) n s ++ drop (length (lines ed (pieceCount (length s)) n s)) out) out
 
 -- the same of `end`, for a buffer of 32 bytes and more
 unfoldable pub endCount : (n m : ℕ) → ℕ

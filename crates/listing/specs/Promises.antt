@@ -1,20 +1,21 @@
--- What this crate promises, in document 01's words. The record has one value, proved in proofs/Promises.antt. Assumes nothing.
+-- What this crate promises, in the words of documents 01 and 02, a). The record has one value for every edition, proved in proofs/Promises.antt. Assumes nothing.
 use mathlib.Core.Path.{_≡_}
 use mathlib.Core.List.{List, [], _∷_, _++_}
 use Prim.Native.Nat.{ℕ, _+_, _*_, _≤_, _<_}
 use lib.ListN.{length}
 use Rattle.frame.specs.Read.{judgeOf, frameRefusal, placesIn}
+use Rattle.frame.specs.declared.Edition.{Edition}
 use Rattle.listing.specs.Lines.{lines, lineOf, listingOf}
 
-pub record Listing : Type 0 where
+pub record Listing (ed : Edition) : Type 0 where
   -- empty input gives `end 0`
-  pub empty : listingOf [] ≡ 101 ∷ 110 ∷ 100 ∷ 32 ∷ 48 ∷ 10 ∷ []
+  pub empty : listingOf ed [] ≡ 101 ∷ 110 ∷ 100 ∷ 32 ∷ 48 ∷ 10 ∷ []
   -- one clean frame and then five bytes give `1 0 0`, `2 1 -`, `end 2`
-  pub example : (f x : List ℕ) → length f ≡ 26 → frameRefusal f ≡ 0 → placesIn f ≡ 0 → length x ≡ 5
-      → listingOf (f ++ x) ≡ 49 ∷ 32 ∷ 48 ∷ 32 ∷ 48 ∷ 10 ∷ 50 ∷ 32 ∷ 49 ∷ 32 ∷ 45 ∷ 10 ∷ 101 ∷ 110 ∷ 100 ∷ 32 ∷ 50 ∷ 10 ∷ []
+  pub example : (f x : List ℕ) → length f ≡ 26 → frameRefusal ed f ≡ 0 → placesIn ed f ≡ 0 → length x ≡ 5
+      → listingOf ed (f ++ x) ≡ 49 ∷ 32 ∷ 48 ∷ 32 ∷ 48 ∷ 10 ∷ 50 ∷ 32 ∷ 49 ∷ 32 ∷ 45 ∷ 10 ∷ 101 ∷ 110 ∷ 100 ∷ 32 ∷ 50 ∷ 10 ∷ []
   -- the pieces may be listed in turns: those of a row of whole frames, and then the rest, with the next number
-  pub turns : (s t : List ℕ) (k j n : ℕ) → length s ≡ 26 * k → lines (k + j) n (s ++ t) ≡ lines k n s ++ lines j (n + k) t
+  pub turns : (s t : List ℕ) (k j n : ℕ) → length s ≡ 26 * k → lines ed (k + j) n (s ++ t) ≡ lines ed k n s ++ lines ed j (n + k) t
   -- what comes after frame 999,999 is not listed
-  pub stops : (s t : List ℕ) → length s ≡ 26 * 999999 → listingOf (s ++ t) ≡ listingOf s
+  pub stops : (s t : List ℕ) → length s ≡ 26 * 999999 → listingOf ed (s ++ t) ≡ listingOf ed s
   -- a line has at most 32 bytes
-  pub line-short : (n : ℕ) (f : List ℕ) → n < 18446744073709551616 → length (lineOf n (judgeOf f)) ≤ 32
+  pub line-short : (n : ℕ) (f : List ℕ) → n < 18446744073709551616 → length (lineOf n (judgeOf ed f)) ≤ 32

@@ -8,6 +8,7 @@ use native.Mathlib.Omega.{arith}
 use lib.Dec.{eqb, ltb, leb}
 use lib.ListN.{length, length-append}
 use borrow.Author.Tests.{ltb-true, ltb-false, leb-true, leb-false, le-leb, lt-leb, lt-ltb, le-ltb, eq-eqb, ne-eqb}
+use Rattle.frame.specs.declared.Edition.{Edition}
 use Rattle.listing.specs.Lines.{pieceCount, endLine}
 use Rattle.listing.proofs.LineLengths.{length-lines, length-end}
 use Rattle.listing_turns.specs.Turns.{turnBytes, wantedAfter, linesAfter, turnText, fits}
@@ -70,26 +71,28 @@ wanted-most n b = go (ltb b (turnBytes n))
     go true = omega arith
     go false = omega arith
 
--- ---- the text of a turn
-
-pub text-more : (n : ℕ) (s : List ℕ) → (wantedAfter n (length s) ≡ 0 → ⊥) → turnText n s ≡ linesAfter n s
-unfolding turnText
-text-more n s z = rw (ne-eqb (wantedAfter n (length s)) 0 z, append-nil)
-
-pub text-last : (n : ℕ) (s : List ℕ) → wantedAfter n (length s) ≡ 0 → turnText n s ≡ linesAfter n s ++ endLine (n + pieceCount (length s))
-unfolding turnText
-text-last n s z = rw (eq-eqb (wantedAfter n (length s)) 0 z)
-
--- if the turn fits, so does its text
+-- the last line, or none
 last-short : (t : Bool) (n : ℕ) → n ≤ 999999 → length (cond t (endLine n) []) ≤ 32
 last-short true n h = length-end n (omega arith)
 last-short false n h = omega arith
 
-pub text-within : (n : ℕ) (s : List ℕ) (m : ℕ) → fits n (pieceCount (length s)) m ≡ true → length (turnText n s) ≤ m
-unfolding turnText
-text-within n s m e =
-    let c = pieceCount (length s) in
-    let f = fits-true n c m e in
-    let l = length-lines c (n + 1) s (omega arith) in
-    let k = last-short (eqb (wantedAfter n (length s)) 0) (n + c) (omega arith) in
-    simp length-append (omega arith)
+module _ (ed : Edition) where
+  -- ---- the text of a turn
+
+  pub text-more : (n : ℕ) (s : List ℕ) → (wantedAfter n (length s) ≡ 0 → ⊥) → turnText ed n s ≡ linesAfter ed n s
+  unfolding turnText
+  text-more n s z = rw (ne-eqb (wantedAfter n (length s)) 0 z, append-nil)
+
+  pub text-last : (n : ℕ) (s : List ℕ) → wantedAfter n (length s) ≡ 0 → turnText ed n s ≡ linesAfter ed n s ++ endLine (n + pieceCount (length s))
+  unfolding turnText
+  text-last n s z = rw (eq-eqb (wantedAfter n (length s)) 0 z)
+
+  -- if the turn fits, so does its text
+  pub text-within : (n : ℕ) (s : List ℕ) (m : ℕ) → fits n (pieceCount (length s)) m ≡ true → length (turnText ed n s) ≤ m
+  unfolding turnText
+  text-within n s m e =
+      let c = pieceCount (length s) in
+      let f = fits-true n c m e in
+      let l = length-lines ed c (n + 1) s (omega arith) in
+      let k = last-short (eqb (wantedAfter n (length s)) 0) (n + c) (omega arith) in
+      simp length-append (omega arith)

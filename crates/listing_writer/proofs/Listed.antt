@@ -9,6 +9,7 @@ use lib.ListN.{length, take, drop, length-drop, drop-of-length-le}
 use lib.Seq.{length-sets, take-all, drop-drop}
 use borrow.Author.Tests.{leb-true, leb-false}
 use Rattle.frame.specs.Read.{judgeOf}
+use Rattle.frame.specs.declared.Edition.{Edition}
 use Rattle.frame.specs.declared.Verdict.{Verdict}
 use Rattle.decimals.specs.Put.{Put}
 use Rattle.listing.specs.Lines.{lineOf, pieceCount, lines}
@@ -16,16 +17,16 @@ use Rattle.listing.proofs.Promises.{lines-none, lines-next}
 use Rattle.decimals.proofs.Stores.{put-then}
 
 -- the pieces of s before a place are listed, numbered from the first on, at the start of a buffer that has 32 bytes for each of the others
-pub record Listed (s : List ℕ) (first : ℕ) (out₀ out : List ℕ) (number start at : ℕ) : Type 0 where
+pub record Listed (ed : Edition) (s : List ℕ) (first : ℕ) (out₀ out : List ℕ) (number start at : ℕ) : Type 0 where
   pub done : List ℕ
-  pub text : lines (pieceCount (length s)) first s ≡ done ++ lines (pieceCount (length s - start)) number (drop start s)
+  pub text : lines ed (pieceCount (length s)) first s ≡ done ++ lines ed (pieceCount (length s - start)) number (drop start s)
   pub stored : Put out₀ 0 done out at
   pub room : at + 32 * pieceCount (length s - start) ≤ length out₀
   pub inside : start ≤ length s
   pub small : number ≤ first + start
 
-pub listed-none : (s : List ℕ) (first : ℕ) (out : List ℕ) → 32 * pieceCount (length s) ≤ length out → Listed s first out out first 0 0
-listed-none s first out h =
+pub listed-none : (ed : Edition) (s : List ℕ) (first : ℕ) (out : List ℕ) → 32 * pieceCount (length s) ≤ length out → Listed ed s first out out first 0 0
+listed-none ed s first out h =
     let e : length s - 0 ≡ length s = omega arith in
     record {
       done = [];
@@ -58,7 +59,7 @@ module _ (s : List ℕ) (start end : ℕ) (e : end ≡ min (start + 26) (length 
           let h = leb-false (start + 26) (length s) q in
           drop-of-length-le s {i = end} (omega arith) ∙ sym (drop-of-length-le s {i = start + 26} (omega arith))
 
-module _ {s : List ℕ} {first : ℕ} {out₀ out : List ℕ} {number start at : ℕ} (w : Listed s first out₀ out number start at) where
+module _ {ed : Edition} {s : List ℕ} {first : ℕ} {out₀ out : List ℕ} {number start at : ℕ} (w : Listed ed s first out₀ out number start at) where
   pub listed-length : length out ≡ length out₀
   listed-length = ap length (w .stored .text) ∙ length-sets out₀ 0 (w .done)
 
@@ -66,15 +67,15 @@ module _ {s : List ℕ} {first : ℕ} {out₀ out : List ℕ} {number start at :
   listed-room h = omega (arith, w .room, listed-length)
 
   pub listed-next : (end : ℕ) (v : Verdict) (m : List ℕ) (j : ℕ) → start < length s → end ≡ min (start + 26) (length s)
-      → v ≡ judgeOf (take (end - start) (drop start s)) → length (lineOf number v) ≤ 32 → Put out at (lineOf number v) m j
-      → Listed s first out₀ m (number + 1) end j
+      → v ≡ judgeOf ed (take (end - start) (drop start s)) → length (lineOf number v) ≤ 32 → Put out at (lineOf number v) m j
+      → Listed ed s first out₀ m (number + 1) end j
   listed-next end v m j h e judged short p =
       let line = lineOf number v in
       let k = pieceCount (length s - end) in
       let count : pieceCount (length s - start) ≡ suc k = omega arith in
-      let rest : lines (pieceCount (length s - start)) number (drop start s) ≡ line ++ lines k (number + 1) (drop end s) =
-      ap (λ (x : ℕ). lines x number (drop start s)) count
-      ∙ lines-next k number (drop start s)
+      let rest : lines ed (pieceCount (length s - start)) number (drop start s) ≡ line ++ lines ed k (number + 1) (drop end s) =
+      ap (λ (x : ℕ). lines ed x number (drop start s)) count
+      ∙ lines-next ed k number (drop start s)
       ∙ rw (← cut-drop s start end e, ← cut-take s start end e, ← judged) in
       record {
         done = w .done ++ line;
@@ -86,9 +87,9 @@ module _ {s : List ℕ} {first : ℕ} {out₀ out : List ℕ} {number start at :
       }
 
   pub listed-all : length s ≤ start
-      → Put out₀ 0 (lines (pieceCount (length s)) first s) out at × (length (lines (pieceCount (length s)) first s) ≤ length out₀)
+      → Put out₀ 0 (lines ed (pieceCount (length s)) first s) out at × (length (lines ed (pieceCount (length s)) first s) ≤ length out₀)
   listed-all h =
       let z : pieceCount (length s - start) ≡ 0 = omega arith in
-      let e : lines (pieceCount (length s)) first s ≡ w .done =
-      w .text ∙ ap (λ (x : ℕ). w .done ++ lines x number (drop start s)) z ∙ ap (w .done ++_) (lines-none number (drop start s)) ∙ append-nil (w .done) in
+      let e : lines ed (pieceCount (length s)) first s ≡ w .done =
+      w .text ∙ ap (λ (x : ℕ). w .done ++ lines ed x number (drop start s)) z ∙ ap (w .done ++_) (lines-none ed number (drop start s)) ∙ append-nil (w .done) in
       rw e (w .stored, omega (arith, w .room, w .stored .place))

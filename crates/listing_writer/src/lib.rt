@@ -1,8 +1,9 @@
-// The listing of an input: a line of text for each frame.
+// The listing of an input, by the edition named: a line of text for each frame.
 ghost use mathlib.Core.Path.{_≡_};
 ghost use Prim.Native.Nat.{_+_, _≤_, min};
 ghost use lib.ListN.{length};
 ghost use Rattle.listing.specs.Lines.{listCount, listOf};
+use frame::Edition;
 
 // Where the piece that starts at a place ends.
 fn piece_end(start: usize, len: usize) -> usize
@@ -17,9 +18,9 @@ fn piece_end(start: usize, len: usize) -> usize
 
 // The lines of all pieces of the input, numbered from the first on, at the start of the buffer; how many bytes they are. A buffer that has not 32 bytes for
 // each piece is left as it is, and the answer is 0.
-pub fn list(input: &[u8], first: u32, out: &mut [u8]) -> usize
-    ensures count { λ r. ⌜ r ≡ listCount (now (input .entry)) first (length (now (out .entry))) ⌝ }
-    ensures text { λ _. ⌜ now (out .exit) ≡ listOf (now (input .entry)) first (now (out .entry)) ⌝ }
+pub fn list(edition: Edition, input: &[u8], first: u32, out: &mut [u8]) -> usize
+    ensures count { λ r. ⌜ r ≡ listCount edition (now (input .entry)) first (length (now (out .entry))) ⌝ }
+    ensures text { λ _. ⌜ now (out .exit) ≡ listOf edition (now (input .entry)) first (now (out .entry)) ⌝ }
 {
     if out.len() / 32 < listing::piece_count(input.len()) {
         return 0;
@@ -29,7 +30,12 @@ pub fn list(input: &[u8], first: u32, out: &mut [u8]) -> usize
     let mut at = 0;
     while start < input.len() {
         let end = piece_end(start, input.len());
-        at = listing_lines::put_line(out, at, number, frame_reader::judge(&input[start..end]));
+        at = listing_lines::put_line(
+            out,
+            at,
+            number,
+            frame_reader::judge(edition, &input[start..end]),
+        );
         start = end;
         number += 1;
     }

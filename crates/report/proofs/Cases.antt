@@ -7,6 +7,7 @@ use lib.Ieee.{Float}
 use borrow.Author.Tests.{eq-eqb, ne-eqb}
 use Rattle.frame.specs.Fields.{recordBody}
 use Rattle.frame.specs.Write.{Legal, recordRefusal}
+use Rattle.frame.specs.declared.Edition.{Edition}
 use Rattle.frame.specs.declared.Body.{Body}
 use Rattle.frame.specs.declared.Body.the-variants.{PlacePage}
 use Rattle.frame.specs.declared.Record.{Record}
@@ -23,18 +24,19 @@ pub place-reported : (r : Record) {b : Body} {n m k : Float} → b ≡ PlacePage
     → k ≡ kilometresOf (r .depth) → Place n m k ≡ reportedBy b r
 place-reported r {m = m} {k = k} e p q o = ap (λ (x : Float). Place x m k) p ∙ ap₂ (Place (degreesOf (r .south) (r .latitude))) q o ∙ body-reported r PlacePage e
 
--- a legal record reports by its body
-pub legal : (r : Record) → Legal r → reportOf r ≡ reportedBy (recordBody r) r
-unfolding reportOf
-legal r e = ap (λ (b : Bool). cond b (reportedBy (recordBody r) r) (Refused (recordRefusal r))) (eq-eqb (recordRefusal r) 0 e)
+module _ (ed : Edition) where
+  -- a legal record reports by its body
+  pub legal : (r : Record) → Legal ed r → reportOf ed r ≡ reportedBy (recordBody ed r) r
+  unfolding reportOf
+  legal r e = ap (λ (b : Bool). cond b (reportedBy (recordBody ed r) r) (Refused (recordRefusal ed r))) (eq-eqb (recordRefusal ed r) 0 e)
 
-pub refused : (r : Record) → recordRefusal r ≢ 0 → reportOf r ≡ Refused (recordRefusal r)
-unfolding reportOf
-refused r h = ap (λ (b : Bool). cond b (reportedBy (recordBody r) r) (Refused (recordRefusal r))) (ne-eqb (recordRefusal r) 0 h)
+  pub refused : (r : Record) → recordRefusal ed r ≢ 0 → reportOf ed r ≡ Refused (recordRefusal ed r)
+  unfolding reportOf
+  refused r h = ap (λ (b : Bool). cond b (reportedBy (recordBody ed r) r) (Refused (recordRefusal ed r))) (ne-eqb (recordRefusal ed r) 0 h)
 
--- as the function comes to them
-pub report-refused : (r : Record) (n : ℕ) → n ≡ recordRefusal r → n ≢ 0 → Refused n ≡ reportOf r
-report-refused r n e h = ap Refused e ∙ sym (refused r (λ z. h (e ∙ z)))
+  -- as the function comes to them
+  pub report-refused : (r : Record) (n : ℕ) → n ≡ recordRefusal ed r → n ≢ 0 → Refused n ≡ reportOf ed r
+  report-refused r n e h = ap Refused e ∙ sym (refused r (λ z. h (e ∙ z)))
 
-pub report-legal : (r : Record) (n : ℕ) (b : Body) {a : Reported} → n ≡ recordRefusal r → n ≡ 0 → b ≡ recordBody r → a ≡ reportedBy b r → a ≡ reportOf r
-report-legal r n b e z p q = q ∙ ap (λ (x : Body). reportedBy x r) p ∙ sym (legal r (sym e ∙ z))
+  pub report-legal : (r : Record) (n : ℕ) (b : Body) {a : Reported} → n ≡ recordRefusal ed r → n ≡ 0 → b ≡ recordBody ed r → a ≡ reportedBy b r → a ≡ reportOf ed r
+  report-legal r n b e z p q = q ∙ ap (λ (x : Body). reportedBy x r) p ∙ sym (legal r (sym e ∙ z))

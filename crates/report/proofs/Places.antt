@@ -12,8 +12,9 @@ use Rattle.bits.specs.Segment.{freeWidths}
 use Rattle.frame.specs.Body.{row, layout}
 use Rattle.frame.specs.Fields.{scatter, fields, fieldWidths, recordBody, overLimit}
 use Rattle.frame.specs.Write.{Legal, recordRefusal}
+use Rattle.frame.specs.declared.Edition.{Edition}
 use Rattle.frame.specs.declared.Body.{Body}
-use Rattle.frame.specs.declared.Body.the-variants.{AreaPage, PlacePage, CancelPage, NoInformation}
+use Rattle.frame.specs.declared.Body.the-variants.{AreaPage, PlacePage, CancelPage, SafetyInformation, NoInformation}
 use Rattle.frame.specs.declared.Record.{Record}
 use Rattle.frame.proofs.Indices.{fit-at}
 use Rattle.frame.proofs.Bodies.{legal-sound, sound-legal}
@@ -35,12 +36,12 @@ limited latitude longitude e =
 within : (latitude longitude : ℕ) → latitude ≤ 900 → longitude ≤ 1800 → overLimit PlacePage latitude longitude ≡ false
 within latitude longitude h l = rw (le-ltb 900 latitude h, le-ltb 1800 longitude l)
 
-module _ (r : Record) (l : Legal r) (b : recordBody r ≡ PlacePage) where
+module _ (ed : Edition) (r : Record) (l : Legal ed r) (b : recordBody ed r ≡ PlacePage) where
   fit : Fit (fieldWidths PlacePage) (fields r)
-  fit = subst (λ (x : Body). Fit (fieldWidths x) (fields r)) b (legal-sound r l .fit)
+  fit = subst (λ (x : Body). Fit (fieldWidths x) (fields r)) b (legal-sound ed r l .fit)
 
   limits : (r .latitude ≤ 900) × (r .longitude ≤ 1800)
-  limits = limited (r .latitude) (r .longitude) (ap (λ (x : Body). overLimit x (r .latitude) (r .longitude)) (sym b) ∙ legal-sound r l .limits)
+  limits = limited (r .latitude) (r .longitude) (ap (λ (x : Body). overLimit x (r .latitude) (r .longitude)) (sym b) ∙ legal-sound ed r l .limits)
 
   -- they are allowed
   pub allowed : Allowed (placeFields r)
@@ -54,7 +55,7 @@ module _ (r : Record) (l : Legal r) (b : recordBody r ≡ PlacePage) where
 
   -- the record with other allowed ones is a legal place page too
   module _ (f : Fields) (a : Allowed f) where
-    pub with-body : recordBody (withPlace r f) ≡ PlacePage
+    pub with-body : recordBody ed (withPlace r f) ≡ PlacePage
     unfolding withPlace
     with-body = b
 
@@ -67,14 +68,14 @@ module _ (r : Record) (l : Legal r) (b : recordBody r ≡ PlacePage) where
         let west : f .west < 2 = omega (arith, a .west) in
         let longitude : f .longitude < 2048 = omega (arith, a .longitude) in
         let depth : f .depth < 1024 = omega (arith, a .depth) in
-        (at 0, (at 1, (at 2, (at 3, (at 4, (at 5, (at 6, (at 7, (at 8, (at 9, (at 10, (south, (latitude, (west, (longitude, (depth, (at 16, (at 17, tt))))))))))))))))))
+        (at 0, (at 1, (at 2, (at 3, (at 4, (at 5, (at 6, (at 7, (at 8, (at 9, (at 10, (south, (latitude, (west, (longitude, (depth, (at 16, (at 17, (at 18, tt)))))))))))))))))))
 
-    pub with-legal : Legal (withPlace r f)
+    pub with-legal : Legal ed (withPlace r f)
     unfolding withPlace
     with-legal =
-        sound-legal (withPlace r f)
+        sound-legal ed (withPlace r f)
         (record {
-          known = legal-sound r l .known;
+          known = legal-sound ed r l .known;
           fit = subst (λ (x : Body). Fit (fieldWidths x) (fields (withPlace r f))) (sym b) with-fit;
           limits = ap (λ (x : Body). overLimit x (f .latitude) (f .longitude)) b ∙ within (f .latitude) (f .longitude) (a .latitude) (a .longitude);
         })
@@ -86,32 +87,33 @@ with-own r = refl
 
 -- ---- who reports a place
 
-pub record Reporter (r : Record) (p : Place) : Type 0 where
-  pub legal : Legal r
-  pub body : recordBody r ≡ PlacePage
+pub record Reporter (ed : Edition) (r : Record) (p : Place) : Type 0 where
+  pub legal : Legal ed r
+  pub body : recordBody ed r ≡ PlacePage
   pub is : placeOf (placeFields r) ≡ p
 
 abbrev made : (latitude longitude depth : Float) → Place
 made n m d = record { latitude = n; longitude = m; depth = d }
 
-module _ (r : Record) (p : Place) where
-  by-body : (b : Body) → recordBody r ≡ b → reportedBy b r ≡ reportsPlace p → (recordBody r ≡ PlacePage) × (placeOf (placeFields r) ≡ p)
+module _ (ed : Edition) (r : Record) (p : Place) where
+  by-body : (b : Body) → recordBody ed r ≡ b → reportedBy b r ≡ reportsPlace p → (recordBody ed r ≡ PlacePage) × (placeOf (placeFields r) ≡ p)
   by-body AreaPage e q = let z : _≡_ {A = ℕ} 0 1 = cc in absurd (omega arith)
   by-body CancelPage e q = let z : _≡_ {A = ℕ} 0 1 = cc in absurd (omega arith)
+  by-body SafetyInformation e q = let z : _≡_ {A = ℕ} 0 1 = cc in absurd (omega arith)
   by-body NoInformation e q = let z : _≡_ {A = ℕ} 0 1 = cc in absurd (omega arith)
   by-body PlacePage e q =
       let o = placeOf (placeFields r) in
       let same : made (o .latitude) (o .longitude) (o .depth) ≡ made (p .latitude) (p .longitude) (p .depth) = cc in
       (e, same)
 
-  by-refusal : (t : Bool) → eqb (recordRefusal r) 0 ≡ t → reportOf r ≡ reportsPlace p → Reporter r p
+  by-refusal : (t : Bool) → eqb (recordRefusal ed r) 0 ≡ t → reportOf ed r ≡ reportsPlace p → Reporter ed r p
   by-refusal true e q =
-      let l : Legal r = eqb-true (recordRefusal r) 0 e in
-      let h = by-body (recordBody r) refl (sym (legal r l) ∙ q) in
+      let l : Legal ed r = eqb-true (recordRefusal ed r) 0 e in
+      let h = by-body (recordBody ed r) refl (sym (legal ed r l) ∙ q) in
       record { legal = l; body = h .0; is = h .1 }
   by-refusal false e q =
-      let n = sym (refused r (eqb-false (recordRefusal r) 0 e)) ∙ q in
+      let n = sym (refused ed r (eqb-false (recordRefusal ed r) 0 e)) ∙ q in
       let z : _≡_ {A = ℕ} 0 1 = cc in absurd (omega arith)
 
-  pub reporter : reportOf r ≡ reportsPlace p → Reporter r p
-  reporter = by-refusal (eqb (recordRefusal r) 0) refl
+  pub reporter : reportOf ed r ≡ reportsPlace p → Reporter ed r p
+  reporter = by-refusal (eqb (recordRefusal ed r) 0) refl

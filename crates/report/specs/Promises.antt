@@ -1,10 +1,12 @@
--- What this crate promises, in document 01's words. The record has one value, proved in proofs/Promises.antt. Assumes nothing.
+-- What this crate promises, in the words of documents 01 and 02, a). The record has one value for every edition, proved in proofs/Promises.antt. Assumes nothing.
 use mathlib.Core.Path.{_≡_}
 use mathlib.Core.Logic.{_≢_}
 use mathlib.Core.List.{[], _∷_}
 use Rattle.frame.specs.Fields.{recordBody}
 use Rattle.frame.specs.Write.{Legal, recordRefusal}
-use Rattle.frame.specs.declared.Body.the-variants.{AreaPage, PlacePage, CancelPage, NoInformation}
+use Rattle.frame.specs.Promises.{NotSafety}
+use Rattle.frame.specs.declared.Edition.{Edition}
+use Rattle.frame.specs.declared.Body.the-variants.{AreaPage, PlacePage, CancelPage, SafetyInformation, NoInformation}
 use Rattle.frame.specs.declared.Record.{Record}
 use Rattle.place.specs.Degrees.{degreesOf, kilometresOf, placeOf}
 use Rattle.place.specs.Desk.{SameBits, conversionOf}
@@ -41,29 +43,33 @@ withPlace r f =
       depth = f .depth;
       occurred = r .occurred;
       broadcaster = r .broadcaster;
+      region = r .region;
     }
 
 -- a report of a place
 abbrev pub reportsPlace : Place → Reported
 reportsPlace p = reported.Place (p .latitude) (p .longitude) (p .depth)
 
-pub record Reports : Type 0 where
+pub record Reports (ed : Edition) : Type 0 where
   -- for a record that is not legal the answer is the writer's 6, 10 or 9; a legal one has a report
-  pub numbered : (r : Record) → reportNumber (reportOf r) ≡ recordRefusal r
-  -- identification 7: nothing; page 0: areas only; kind 1: a cancellation; otherwise the place
-  pub nothing : (r : Record) → Legal r → recordBody r ≡ NoInformation → reportOf r ≡ reported.Nothing
-  pub areas-only : (r : Record) → Legal r → recordBody r ≡ AreaPage → reportOf r ≡ reported.AreasOnly
-  pub cancellation : (r : Record) → Legal r → recordBody r ≡ CancelPage → reportOf r ≡ reported.Cancellation
-  pub place : (r : Record) → Legal r → recordBody r ≡ PlacePage → reportOf r ≡ reportsPlace (placeOf (placeFields r))
+  pub numbered : (r : Record) → reportNumber (reportOf ed r) ≡ recordRefusal ed r
+  -- identification 7: nothing; page 0: areas only; kind 1: a cancellation; otherwise the place; area safety information is a case of its own
+  pub nothing : (r : Record) → Legal ed r → recordBody ed r ≡ NoInformation → reportOf ed r ≡ reported.Nothing
+  pub areas-only : (r : Record) → Legal ed r → recordBody ed r ≡ AreaPage → reportOf ed r ≡ reported.AreasOnly
+  pub cancellation : (r : Record) → Legal ed r → recordBody ed r ≡ CancelPage → reportOf ed r ≡ reported.Cancellation
+  pub safety : (r : Record) → Legal ed r → recordBody ed r ≡ SafetyInformation → reportOf ed r ≡ reported.Safety
+  pub place : (r : Record) → Legal ed r → recordBody ed r ≡ PlacePage → reportOf ed r ≡ reportsPlace (placeOf (placeFields r))
   -- a place is told by its three doubles, each the image of its field value; no other report tells any
-  pub place-told : (r : Record) → Legal r → recordBody r ≡ PlacePage
-      → reportDoubles (reportOf r) ≡ degreesOf (r .south) (r .latitude) ∷ degreesOf (r .west) (r .longitude) ∷ kilometresOf (r .depth) ∷ []
-  pub others-told : (r : Record) → recordBody r ≢ PlacePage → reportDoubles (reportOf r) ≡ []
-  pub refused-told : (r : Record) → recordRefusal r ≢ 0 → reportDoubles (reportOf r) ≡ []
+  pub place-told : (r : Record) → Legal ed r → recordBody ed r ≡ PlacePage
+      → reportDoubles (reportOf ed r) ≡ degreesOf (r .south) (r .latitude) ∷ degreesOf (r .west) (r .longitude) ∷ kilometresOf (r .depth) ∷ []
+  pub others-told : (r : Record) → recordBody ed r ≢ PlacePage → reportDoubles (reportOf ed r) ≡ []
+  pub refused-told : (r : Record) → recordRefusal ed r ≢ 0 → reportDoubles (reportOf ed r) ≡ []
   -- a reported place, given to the desk, becomes the record's own fields
-  pub desk-again : (r : Record) (p : Place) → reportOf r ≡ reportsPlace p → conversionOf p ≡ Converted (placeFields r)
+  pub desk-again : (r : Record) (p : Place) → reportOf ed r ≡ reportsPlace p → conversionOf p ≡ Converted (placeFields r)
   -- so that report, desk and report again give the same place
-  pub report-again : (r : Record) (p : Place) (f : Fields) → reportOf r ≡ reportsPlace p → conversionOf p ≡ Converted f → reportOf (withPlace r f) ≡ reportsPlace p
+  pub report-again : (r : Record) (p : Place) (f : Fields) → reportOf ed r ≡ reportsPlace p → conversionOf p ≡ Converted f → reportOf ed (withPlace r f) ≡ reportsPlace p
   -- and a place that the desk accepts, put into a record of a place, is reported with the very same bits
-  pub desk-reported : (r : Record) (p : Place) (f : Fields) → Legal r → recordBody r ≡ PlacePage → conversionOf p ≡ Converted f
-      → (reportOf (withPlace r f) ≡ reportsPlace (placeOf f)) × SameBits p (placeOf f)
+  pub desk-reported : (r : Record) (p : Place) (f : Fields) → Legal ed r → recordBody ed r ≡ PlacePage → conversionOf p ≡ Converted f
+      → (reportOf ed (withPlace r f) ≡ reportsPlace (placeOf f)) × SameBits p (placeOf f)
+  -- which edition is named does not matter to a record that is not area safety information
+  pub alike : (other : Edition) (r : Record) → NotSafety (r .identification) → reportOf ed r ≡ reportOf other r

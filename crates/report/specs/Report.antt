@@ -1,4 +1,4 @@
--- What a record reports (document 01, "The place in degrees"). Assumes nothing.
+-- What a record reports (document 01, "The place in degrees"; document 02, a). Assumes nothing.
 use mathlib.Core.Bool.{cond}
 use mathlib.Core.List.{List, [], _∷_}
 use Prim.Native.Nat.{ℕ}
@@ -6,23 +6,25 @@ use lib.Dec.{eqb}
 use lib.Ieee.{Float}
 use Rattle.frame.specs.Fields.{recordBody}
 use Rattle.frame.specs.Write.{recordRefusal}
+use Rattle.frame.specs.declared.Edition.{Edition}
 use Rattle.frame.specs.declared.Body.{Body}
-use Rattle.frame.specs.declared.Body.the-variants.{AreaPage, PlacePage, CancelPage, NoInformation}
+use Rattle.frame.specs.declared.Body.the-variants.{AreaPage, PlacePage, CancelPage, SafetyInformation, NoInformation}
 use Rattle.frame.specs.declared.Record.{Record}
 use Rattle.place.specs.Degrees.{degreesOf, kilometresOf}
 use Rattle.report.specs.declared.Reported.{Reported}
-use Rattle.report.specs.declared.Reported.the-variants.{Place, Cancellation, AreasOnly, Nothing, Refused}
+use Rattle.report.specs.declared.Reported.the-variants.{Place, Cancellation, AreasOnly, Nothing, Safety, Refused}
 
 -- by the body of the record
 abbrev pub reportedBy : Body → Record → Reported
 reportedBy AreaPage r = AreasOnly
 reportedBy PlacePage r = Place (degreesOf (r .south) (r .latitude)) (degreesOf (r .west) (r .longitude)) (kilometresOf (r .depth))
 reportedBy CancelPage r = Cancellation
+reportedBy SafetyInformation r = Safety
 reportedBy NoInformation r = Nothing
 
 -- what `report` answers: for a record that is not legal the writer's 6, 10 or 9
-unfoldable pub reportOf : Record → Reported
-reportOf r = cond (eqb (recordRefusal r) 0) (reportedBy (recordBody r) r) (Refused (recordRefusal r))
+unfoldable pub reportOf : Edition → Record → Reported
+reportOf ed r = cond (eqb (recordRefusal ed r) 0) (reportedBy (recordBody ed r) r) (Refused (recordRefusal ed r))
 
 -- document 01's number and values of a report: 0 with the latitude, longitude and depth of a place, and none of the others; or the refusal's number
 abbrev pub reportNumber : Reported → ℕ
@@ -30,6 +32,7 @@ reportNumber (Place n m d) = 0
 reportNumber Cancellation = 0
 reportNumber AreasOnly = 0
 reportNumber Nothing = 0
+reportNumber Safety = 0
 reportNumber (Refused n) = n
 
 abbrev pub reportDoubles : Reported → List Float
@@ -37,4 +40,5 @@ reportDoubles (Place n m d) = n ∷ m ∷ d ∷ []
 reportDoubles Cancellation = []
 reportDoubles AreasOnly = []
 reportDoubles Nothing = []
+reportDoubles Safety = []
 reportDoubles (Refused n) = []

@@ -1,10 +1,11 @@
-// What a record reports.
+// What a record reports, by the edition named.
 ghost use mathlib.Core.Path.{_≡_};
 ghost use Rattle.report.specs.Report.{reportedBy, reportOf};
 use frame::Body;
+use frame::Edition;
 use frame::Record;
 
-// A place with its three doubles, a cancellation, areas only, nothing, or the writer's refusal of the record.
+// A place with its three doubles, a cancellation, areas only, nothing, area safety information, which has no data, or the writer's refusal of the record.
 pub enum Reported {
     Place {
         latitude: f64,
@@ -14,6 +15,7 @@ pub enum Reported {
     Cancellation,
     AreasOnly,
     Nothing,
+    Safety,
     Refused(u8),
 }
 
@@ -29,17 +31,18 @@ fn report_by(body: Body, message: Record) -> Reported
             depth: place_images::kilometres(message.depth),
         },
         Body::CancelPage => Reported::Cancellation,
+        Body::SafetyInformation => Reported::Safety,
         Body::NoInformation => Reported::Nothing,
     }
 }
 
 // What any record reports.
-pub fn report(message: Record) -> Reported
-    ensures { λ r. ⌜ r ≡ reportOf message ⌝ }
+pub fn report(edition: Edition, message: Record) -> Reported
+    ensures { λ r. ⌜ r ≡ reportOf edition message ⌝ }
 {
-    let refusal = frame_legality::record_refusal(message);
+    let refusal = frame_legality::record_refusal(edition, message);
     if refusal != 0 {
         return Reported::Refused(refusal);
     }
-    report_by(frame_legality::record_body(message), message)
+    report_by(frame_legality::record_body(edition, message), message)
 }

@@ -1,4 +1,4 @@
--- Document 01's starred worked examples, 1 to 10, gathered under a single claim and stated of the written definitions. Assumes nothing.
+-- Document 01's starred worked examples, 1 to 10, gathered under a single claim and stated of the written definitions, in the first edition. Assumes nothing.
 use mathlib.Core.Path.{_≡_}
 use mathlib.Core.List.{List, [], _∷_}
 use Prim.Native.Nat.{ℕ, _≤_, _<_}
@@ -13,11 +13,13 @@ use Rattle.dsc.specs.Worked.{generatorWord, firstPlaces, SomePlaces}
 use Rattle.frame.specs.Read.{noDamage, readOf}
 use Rattle.frame.specs.Write.{Legal, recordRefusal, frameOf}
 use Rattle.frame.specs.Worked.{AtLatitude, atLatitude}
+use Rattle.frame.specs.declared.Edition.the-variants.{First}
 use Rattle.frame.specs.declared.Record.{Record}
 use Rattle.frame.specs.declared.Reading.the-variants.{Accepted, Refused}
 use Rattle.follower.specs.Follow.{stepOf}
 use Rattle.follower.specs.Promises.{Warns, Some}
 use Rattle.follower_events.specs.declared.Kind.{Kind}
+use Rattle.follower_events.specs.declared.Kind.the-variants.{Real, Test}
 use Rattle.follower_events.specs.declared.Event.the-variants.{Changed, Skipped}
 use Rattle.follower.specs.declared.Follower.{Follower}
 
@@ -41,14 +43,16 @@ pub record Examples : Type 0 where
   pub example7-one : crc10 (covered (110 ∷ [])) ≡ bitsOf 10 0b1001010101
   pub example7-both : crc10 (covered (110 ∷ 111 ∷ [])) ≡ bitsOf 10 0b0001100110
   -- 8. latitude 900 accepted, 901 refused 9: by the writer, and by the reader of the frame that holds these fields; there are such records
-  pub example8-written : (r : Record) → AtLatitude 900 r → Legal r
-  pub example8-read : (r : Record) → AtLatitude 900 r → readOf (frameOf r) ≡ Accepted r noDamage
-  pub example8-not-written : (r : Record) → AtLatitude 901 r → recordRefusal r ≡ 9
-  pub example8-not-read : (r : Record) → AtLatitude 901 r → readOf (frameOf r) ≡ Refused 9
+  pub example8-written : (r : Record) → AtLatitude 900 r → Legal First r
+  pub example8-read : (r : Record) → AtLatitude 900 r → readOf First (frameOf First r) ≡ Accepted r noDamage
+  pub example8-not-written : (r : Record) → AtLatitude 901 r → recordRefusal First r ≡ 9
+  pub example8-not-read : (r : Record) → AtLatitude 901 r → readOf First (frameOf First r) ≡ Refused 9
   pub example8-some : (n : ℕ) → n < 1024 → AtLatitude n (atLatitude n)
   -- 9. update 3 then 0, same kind: "changed"; 0 then 3: "skipped"; there are such frames
-  pub example9-changed : (s : Follower) (f g : List ℕ) (k : Kind) → Warns f k 3 → Warns g k 0 → stepOf (stepOf s f .next) g .event ≡ Changed
-  pub example9-skipped : (s : Follower) (f g : List ℕ) (k : Kind) → Warns f k 0 → Warns g k 3 → stepOf (stepOf s f .next) g .event ≡ Skipped
-  pub example9-some : (k : Kind) (u : ℕ) → u < 4 → Some k u
+  pub example9-changed : (s : Follower) (f g : List ℕ) (k : Kind) → Warns First f k 3 → Warns First g k 0
+      → stepOf First (stepOf First s f .next) g .event ≡ Changed
+  pub example9-skipped : (s : Follower) (f g : List ℕ) (k : Kind) → Warns First f k 0 → Warns First g k 3
+      → stepOf First (stepOf First s f .next) g .event ≡ Skipped
+  pub example9-some : (u : ℕ) → u < 4 → Some First Real u × Some First Test u
   -- 10. 26 zero bytes: refusal 3
-  pub example10 : readOf (replicate 26 0) ≡ Refused 3
+  pub example10 : readOf First (replicate 26 0) ≡ Refused 3

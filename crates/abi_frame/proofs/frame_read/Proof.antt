@@ -1,6 +1,9 @@
 -- `abi_frame::frame_read` meets its contract. Assumes nothing.
-use mathlib.Core.Path.{refl, sym, _∙_}
+use mathlib.Core.Path.{refl, sym, ap, _∙_}
+use denote.Ref.{now}
 use borrow.Author.Needs.{needs}
+use Rattle.frame.specs.declared.Edition.{Edition}
+use Rattle.frame.specs.Read.{readOf}
 use Rattle.abi_frame.proofs.Cases.{read-wrong, read-accepted, read-refused}
 use Rattle.abi_frame.proofs.frame_read.Statement.{statement}
 use Rattle.abi_frame.proofs.frame_read.Tie as tie
@@ -9,7 +12,10 @@ status-requires : tie.Need-status-requires
 status-requires c κs = search needs
 
 returns : tie.Need-returns
-returns c = read-wrong _ _ (c .before .if1 .taken) (c .status .ensures) refl
+returns c = read-wrong _ _ _ (c .before .if1 .taken) (c .status .ensures) refl
+
+edition-of-requires : tie.Need-edition-of-requires
+edition-of-requires c κs = search needs
 
 read-requires : tie.Need-read-requires
 read-requires c κs = search needs
@@ -41,13 +47,19 @@ same-length c = search needs
 returns-2 : tie.Need-returns-2
 returns-2 c =
     let read = c .before .before .before .before .before .before .before .before .before .before in
-    read-accepted _ _ (read .before .if1 .left) (sym (read .read .ensures) ∙ c .before .before .before .before .before .before .before .before .message .given .1) (c .damage-status .ensures)
-    (c .before .before .before .copy .ensures ∙ c .before .before .before .before .before .before .fields-of .ensures)
+    let named = read .before .edition-of .ensures in
+    let f = now (read .before .before .before .before .before .args .frame) in
+    read-accepted _ _ _ (read .before .before .if1 .left)
+    (sym (read .read .ensures ∙ ap (λ (e : Edition). readOf e f) named) ∙ c .before .before .before .before .before .before .before .before .message .given .1)
+    (c .damage-status .ensures) (c .before .before .before .copy .ensures ∙ c .before .before .before .before .before .before .fields-of .ensures)
 
 returns-3 : tie.Need-returns-3
 returns-3 c =
     let read = c .before .before .before .before in
-    read-refused _ _ (read .before .if1 .left) (sym (read .read .ensures) ∙ c .before .before .number .given .1) (c .status2 .ensures) refl
+    let named = read .before .edition-of .ensures in
+    let f = now (read .before .before .before .before .before .args .frame) in
+    read-refused _ _ _ (read .before .before .if1 .left) (sym (read .read .ensures ∙ ap (λ (e : Edition). readOf e f) named) ∙ c .before .before .number .given .1)
+    (c .status2 .ensures) refl
 
 pub frame-read-spec : {M : Type 1} → statement M
 frame-read-spec =
@@ -55,6 +67,7 @@ frame-read-spec =
     (tie.spec
     status-requires
     returns
+    edition-of-requires
     read-requires
     enum-known-message
     fields-of-requires

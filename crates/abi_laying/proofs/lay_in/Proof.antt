@@ -2,10 +2,17 @@
 -- answer is refused by the fact that fails. Assumes nothing.
 use mathlib.Core.Path.{_≡_, _∙_, ap}
 use Prim.Native.Nat.{ℕ}
+use denote.Ref.{now}
 use borrow.Author.Needs.{needs}
+use Rattle.frame.specs.declared.Edition.{Edition}
+use Rattle.header_laying.specs.Laying.{layInOf}
 use Rattle.abi.specs.Status.{statusOf}
+use Rattle.abi_laying.specs.Laying.{layInStatus}
 use Rattle.abi_laying.proofs.lay_in.Statement.{statement}
 use Rattle.abi_laying.proofs.lay_in.Tie as tie
+
+edition-of-requires : tie.Need-edition-of-requires
+edition-of-requires c κs = search needs
 
 lay-in-requires : tie.Need-lay-in-requires
 lay-in-requires c κs = search needs
@@ -19,8 +26,14 @@ same-length c = search needs
 returns : tie.Need-returns
 returns c =
     let laid = c .before .before .before .lay-in in
-    let told : c .status .result ≡ statusOf (laid .result) 0 = c .status .ensures in
-    (told ∙ ap (λ (n : ℕ). statusOf n 0) (laid .ensures .0), laid .ensures .1)
+    let named = c .before .before .before .before .before in
+    let s = named .before .before .before .args in
+    let h = now (s .header) in
+    let f = now (s .frame) in
+    let told : c .status .result ≡ statusOf (laid .result) 0 = c .status .ensures in (
+      told ∙ ap (λ (n : ℕ). statusOf n 0) (laid .ensures .0) ∙ ap (λ (e : Edition). layInStatus e h f) (named .edition-of .ensures),
+      laid .ensures .1 ∙ ap (λ (e : Edition). layInOf e h f) (named .edition-of .ensures),
+    )
 
 pub lay-in-spec : {M : Type 1} → statement M
-lay-in-spec = tie.close (tie.spec lay-in-requires status-requires same-length returns)
+lay-in-spec = tie.close (tie.spec edition-of-requires lay-in-requires status-requires same-length returns)

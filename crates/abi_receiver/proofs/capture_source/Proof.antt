@@ -1,9 +1,16 @@
 -- `abi_receiver::capture_source` meets its contract. Assumes nothing.
+use mathlib.Core.Path.{ap, _∙_}
+use denote.Ref.{now}
 use borrow.Author.Needs.{needs}
+use Rattle.frame.specs.declared.Edition.{Edition}
+use Rattle.capture.specs.Capture.{sourceOf}
 use Rattle.capture.specs.declared.Tuner.the-variants.{Neither, Main, Spare}
 use Rattle.abi_receiver.proofs.Numbers.{tuner-told}
 use Rattle.abi_receiver.proofs.capture_source.Statement.{statement}
 use Rattle.abi_receiver.proofs.capture_source.Tie as tie
+
+edition-of-requires : tie.Need-edition-of-requires
+edition-of-requires c κs = search needs
 
 source-requires : tie.Need-source-requires
 source-requires c κs = search needs
@@ -18,15 +25,27 @@ enum-told-3 : tie.Need-enum-told-3
 enum-told-3 c = search needs
 
 returns : tie.Need-returns
-returns c = tuner-told Neither (c .before .before .source .ensures) (c .enum-told .given .1)
+returns c =
+    let source = c .before .before in
+    let s = source .before .before .before .before .args in
+    tuner-told Neither
+    (source .source .ensures ∙ ap (λ (e : Edition). sourceOf e (now (s .main)) (now (s .spare)) (s .n)) (source .before .edition-of .ensures)) (c .enum-told .given .1)
 
 returns-2 : tie.Need-returns-2
-returns-2 c = tuner-told Main (c .before .before .source .ensures) (c .enum-told2 .given .1)
+returns-2 c =
+    let source = c .before .before in
+    let s = source .before .before .before .before .args in
+    tuner-told Main
+    (source .source .ensures ∙ ap (λ (e : Edition). sourceOf e (now (s .main)) (now (s .spare)) (s .n)) (source .before .edition-of .ensures)) (c .enum-told2 .given .1)
 
 returns-3 : tie.Need-returns-3
-returns-3 c = tuner-told Spare (c .before .before .source .ensures) (c .enum-told3 .given .1)
+returns-3 c =
+    let source = c .before .before in
+    let s = source .before .before .before .before .args in
+    tuner-told Spare
+    (source .source .ensures ∙ ap (λ (e : Edition). sourceOf e (now (s .main)) (now (s .spare)) (s .n)) (source .before .edition-of .ensures)) (c .enum-told3 .given .1)
 
 pub capture-source-spec : {M : Type 1} → statement M
 capture-source-spec =
     tie.close
-    (tie.spec source-requires enum-told enum-told-2 enum-told-3 returns returns-2 returns-3)
+    (tie.spec edition-of-requires source-requires enum-told enum-told-2 enum-told-3 returns returns-2 returns-3)

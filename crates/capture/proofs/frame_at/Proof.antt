@@ -12,7 +12,7 @@ enum-told : tie.Need-enum-told
 enum-told c = search needs
 
 part-requires : tie.Need-part-requires
-part-requires c κs = main-within _ _ _ (sym (c .before .before .source .ensures) ∙ c .enum-told .given .1)
+part-requires c κs = main-within _ _ _ _ (sym (c .before .before .source .ensures) ∙ c .enum-told .given .1)
 
 returns : tie.Need-returns
 returns c =
@@ -23,7 +23,7 @@ enum-told-2 : tie.Need-enum-told-2
 enum-told-2 c = search needs
 
 part-requires-2 : tie.Need-part-requires-2
-part-requires-2 c κs = spare-within _ _ _ (sym (c .before .before .source .ensures) ∙ c .enum-told2 .given .1)
+part-requires-2 c κs = spare-within _ _ _ _ (sym (c .before .before .source .ensures) ∙ c .enum-told2 .given .1)
 
 returns-2 : tie.Need-returns-2
 returns-2 c =

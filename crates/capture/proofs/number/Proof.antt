@@ -1,8 +1,10 @@
 -- `capture::number` meets its contract. Assumes nothing.
+use mathlib.Core.Path.{sym, ap, _∙_}
 use native.Mathlib.Omega.{arith}
 use denote.Ref.{now}
 use borrow.Author.Needs.{needs}
-use Rattle.frame.specs.Read.{judgeOf}
+use Rattle.frame.specs.Read.{frameRefusal, judgeOf}
+use Rattle.frame.specs.declared.Verdict.{Verdict}
 use Rattle.capture.proofs.Choice.{number-within, number-past}
 use Rattle.capture.proofs.number.Statement.{statement}
 use Rattle.capture.proofs.number.Tie as tie
@@ -16,15 +18,15 @@ judge-requires c κs = search needs
 returns : tie.Need-returns
 unfolding judgeOf
 returns c =
-    let capture = now (c .before .before .before .before .args .capture) in
-    let n = c .before .before .before .before .args .n in
-    rw (c .judge .ensures, c .before .part .ensures .0, number-within capture n (omega arith))
+    let s = c .before .before .before .before .args in
+    ap (λ (v : Verdict). v .number) (c .judge .ensures)
+    ∙ ap (frameRefusal (s .edition)) (c .before .part .ensures .0)
+    ∙ sym (number-within (s .edition) (now (s .capture)) (s .n) (omega arith))
 
 returns-2 : tie.Need-returns-2
 returns-2 c =
-    let capture = now (c .before .before .args .capture) in
-    let n = c .before .before .args .n in
-    rw (number-past capture n (omega arith))
+    let s = c .before .before .args in
+    sym (number-past (s .edition) (now (s .capture)) (s .n) (omega arith))
 
 pub number-spec : {M : Type 1} → statement M
 number-spec = tie.close (tie.spec part-requires judge-requires returns returns-2)

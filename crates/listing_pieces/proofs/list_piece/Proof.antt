@@ -18,7 +18,7 @@ fits-requires c κs = search needs
 returns : tie.Need-returns
 returns c =
     let known = c .before .before in
-    turn-refused _ _ _ _ (known .piece-count .ensures) (sym (c .before .fits2 .ensures) ∙ not-true _ (c .if1 .taken))
+    turn-refused _ _ _ _ _ (known .piece-count .ensures) (sym (c .before .fits2 .ensures) ∙ not-true _ (c .if1 .taken))
 
 add-list : tie.Need-add-list
 add-list c = let f = fits-true _ _ _ (sym (c .before .fits2 .ensures) ∙ not-false _ (c .if1 .left)) in omega arith
@@ -42,14 +42,14 @@ returns-2 : tie.Need-returns-2
 returns-2 c =
     let listed = c .before .before .before .before in
     let tested = listed .before .before in
-    turn-more _ _ _ _ _ _ _ (tested .before .before .piece-count .ensures) (sym (tested .before .fits2 .ensures) ∙ not-false _ (tested .if1 .left))
+    turn-more _ _ _ _ _ _ _ _ (tested .before .before .piece-count .ensures) (sym (tested .before .fits2 .ensures) ∙ not-false _ (tested .if1 .left))
     (listed .list .ensures .0) (listed .list .ensures .1) (c .before .wanted-after .ensures) (c .if2 .taken)
 
 sub-end : tie.Need-sub-end
-sub-end c = omega (arith, list-within _ _ _ _ (c .before .before .before .before .list .ensures .0) (omega arith))
+sub-end c = omega (arith, list-within _ _ _ _ _ (c .before .before .before .before .list .ensures .0) (omega arith))
 
 part-end-start : tie.Need-part-end-start
-part-end-start c = omega (arith, list-within _ _ _ _ (c .before .before .before .before .list .ensures .0) (omega arith))
+part-end-start c = omega (arith, list-within _ _ _ _ _ (c .before .before .before .before .list .ensures .0) (omega arith))
 
 part-end-end : tie.Need-part-end-end
 part-end-end c = search needs
@@ -57,9 +57,9 @@ part-end-end c = search needs
 end-requires : tie.Need-end-requires
 end-requires c κs = search needs
 
-add-t9 : tie.Need-add-t9
-add-t9 c =
-    omega (arith, list-within _ _ _ _ (c .before .before .before .before .before .before .before .before .list .ensures .0) (omega arith), end-within _ _ _ (c .before .before .end .ensures .0) (omega arith))
+add-t10 : tie.Need-add-t10
+add-t10 c =
+    omega (arith, list-within _ _ _ _ _ (c .before .before .before .before .before .before .before .before .list .ensures .0) (omega arith), end-within _ _ _ (c .before .before .end .ensures .0) (omega arith))
 
 same-length-2 : tie.Need-same-length-2
 same-length-2 c = search needs
@@ -70,7 +70,7 @@ returns-3 c =
     let none = ended .before .before in
     let listed = none .before .before .before .before in
     let tested = listed .before .before in
-    turn-last _ _ _ _ _ _ _ _ _ _ _ (tested .before .before .piece-count .ensures) (sym (tested .before .fits2 .ensures) ∙ not-false _ (tested .if1 .left))
+    turn-last _ _ _ _ _ _ _ _ _ _ _ _ (tested .before .before .piece-count .ensures) (sym (tested .before .fits2 .ensures) ∙ not-false _ (tested .if1 .left))
     (listed .list .ensures .0) (listed .list .ensures .1) (none .before .wanted-after .ensures) (none .if2 .left) (ended .end .ensures .0) (ended .end .ensures .1) (omega arith) refl
 
 pub list-piece-spec : {M : Type 1} → statement M
@@ -91,6 +91,6 @@ list-piece-spec =
     part-end-start
     part-end-end
     end-requires
-    add-t9
+    add-t10
     same-length-2
     returns-3)

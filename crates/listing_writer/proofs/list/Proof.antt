@@ -11,10 +11,10 @@ use Rattle.listing_writer.proofs.list.Statement.{statement}
 use Rattle.listing_writer.proofs.list.Tie as tie
 
 abbrev Inv-loop : tie.InvT-loop
-Inv-loop input first out₀ number₀ start₀ at₀ out number start at = Listed input first out₀ out number start at
+Inv-loop edition input first out₀ number₀ start₀ at₀ out number start at = Listed edition input first out₀ out number start at
 
 abbrev μ-loop : tie.MeasureT-loop
-μ-loop input first out₀ number₀ start₀ at₀ out number start at = length input - start
+μ-loop edition input first out₀ number₀ start₀ at₀ out number start at = length input - start
 
 piece-count-requires : tie.Need-piece-count-requires Inv-loop μ-loop
 piece-count-requires c κs = search needs
@@ -24,10 +24,10 @@ unfolding listCount listOf
 returns c =
     let a = c .before .before .before .before .args in
     let n = pieceCount (length (a .input .now)) in
-    answered-none (32 * n) (lines n (a .first) (a .input .now)) (a .out .now) (omega arith)
+    answered-none (32 * n) (lines (a .edition) n (a .first) (a .input .now)) (a .out .now) (omega arith)
 
 loop-holds : tie.Need-loop-holds Inv-loop μ-loop
-loop-holds c = let a = c .before .before .before .before .args in listed-none (a .input .now) (a .first) (a .out .now) (omega arith)
+loop-holds c = let a = c .before .before .before .before .args in listed-none (a .edition) (a .input .now) (a .first) (a .out .now) (omega arith)
 
 piece-end-requires : tie.Need-piece-end-requires Inv-loop μ-loop
 piece-end-requires c κs = search needs
@@ -73,7 +73,7 @@ returns-2 c =
     let a = c .before .before .before .before .before .before .args in
     let n = pieceCount (length (a .input .now)) in
     let r = listed-all (c .before .loop .inv) (c .loop-test .left) in
-    answered-text (32 * n) (lines n (a .first) (a .input .now)) (a .out .now) _ _ (omega arith) (r .1) (r .0)
+    answered-text (32 * n) (lines (a .edition) n (a .first) (a .input .now)) (a .out .now) _ _ (omega arith) (r .1) (r .0)
 
 pub list-spec : {M : Type 1} → statement M
 list-spec =

@@ -9,7 +9,7 @@ record-refusal-requires : tie.Need-record-refusal-requires
 record-refusal-requires c κs = search needs
 
 returns : tie.Need-returns
-returns c = report-refused _ _ (c .before .record-refusal .ensures) (λ e. omega (arith, e))
+returns c = report-refused _ _ _ (c .before .record-refusal .ensures) (λ e. omega (arith, e))
 
 record-body-requires : tie.Need-record-body-requires
 record-body-requires c κs = search needs
@@ -19,7 +19,7 @@ report-by-requires c κs = search needs
 
 returns-2 : tie.Need-returns-2
 returns-2 c =
-    report-legal _ _ _ (c .before .before .before .record-refusal .ensures) (omega arith) (c .before .record-body .ensures) (c .report-by .ensures)
+    report-legal _ _ _ _ (c .before .before .before .record-refusal .ensures) (omega arith) (c .before .record-body .ensures) (c .report-by .ensures)
 
 pub report-spec : {M : Type 1} → statement M
 report-spec =

@@ -1,6 +1,6 @@
 -- `report::report_by` meets its contract. Assumes nothing.
 use borrow.Author.Needs.{needs}
-use Rattle.frame.specs.declared.Body.the-variants.{AreaPage, CancelPage, NoInformation}
+use Rattle.frame.specs.declared.Body.the-variants.{AreaPage, CancelPage, SafetyInformation, NoInformation}
 use Rattle.report.proofs.Cases.{body-reported, place-reported}
 use Rattle.report.proofs.report_by.Statement.{statement}
 use Rattle.report.proofs.report_by.Tie as tie
@@ -26,6 +26,9 @@ enum-told-3 c = search needs
 enum-told-4 : tie.Need-enum-told-4
 enum-told-4 c = search needs
 
+enum-told-5 : tie.Need-enum-told-5
+enum-told-5 c = search needs
+
 returns : tie.Need-returns
 returns c = body-reported (c .before .before .args .message) AreaPage (c .enum-told .given .1)
 
@@ -37,7 +40,10 @@ returns-3 : tie.Need-returns-3
 returns-3 c = body-reported (c .before .before .args .message) CancelPage (c .enum-told3 .given .1)
 
 returns-4 : tie.Need-returns-4
-returns-4 c = body-reported (c .before .before .args .message) NoInformation (c .enum-told4 .given .1)
+returns-4 c = body-reported (c .before .before .args .message) SafetyInformation (c .enum-told4 .given .1)
+
+returns-5 : tie.Need-returns-5
+returns-5 c = body-reported (c .before .before .args .message) NoInformation (c .enum-told5 .given .1)
 
 pub report-by-spec : {M : Type 1} → statement M
 report-by-spec =
@@ -50,7 +56,9 @@ report-by-spec =
     kilometres-requires
     enum-told-3
     enum-told-4
+    enum-told-5
     returns
     returns-2
     returns-3
-    returns-4)
+    returns-4
+    returns-5)
