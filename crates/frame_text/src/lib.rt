@@ -2,15 +2,16 @@
 // record's fields, or `2 refused 4`.
 // Of a frame repaired: `1 repaired 0` and the repaired word, or `2 refused 4`. What the lines tell of is proved in `frame_reader` and `dsc_codec`.
 use dsc::Outcome;
+use frame::Edition;
 use frame::FIELDS;
 use frame::Reading;
 use frame::Record;
 use libc::STDIN_FILENO;
 use libc::STDOUT_FILENO;
 
-// What is asked of each frame.
+// What is asked of each frame: reading names the edition.
 pub enum Question {
-    Read,
+    Read(Edition),
     Repair,
 }
 
@@ -55,8 +56,8 @@ fn refused(n: u8) {
 }
 
 // What the line of a frame says of its reading.
-fn reading(frame: &[u8]) {
-    match frame_reader::read(frame) {
+fn reading(edition: Edition, frame: &[u8]) {
+    match frame_reader::read(edition, frame) {
         Reading::Accepted(r, d) => {
             text(b" accepted ");
             number(d.repaired as u64);
@@ -88,7 +89,7 @@ fn repair(frame: &[u8]) {
 fn line(asked: Question, n: u64, frame: &[u8]) {
     number(n);
     match asked {
-        Question::Read => reading(frame),
+        Question::Read(edition) => reading(edition, frame),
         Question::Repair => repair(frame),
     }
     text(b"\n");

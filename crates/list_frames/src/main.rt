@@ -1,4 +1,6 @@
-// Writes a line for each frame on standard input, and a last line with their count.
+// Writes a line for each frame on standard input, judged by the first edition, and a last line with their count.
+use frame::Edition;
+
 fn main() {
-    listing_io::run();
+    listing_io::run(Edition::First);
 }

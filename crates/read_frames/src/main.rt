@@ -1,4 +1,6 @@
-// Reads the frames on standard input, 26 bytes each, and prints what each says.
+// Reads the frames on standard input, 26 bytes each, by the first edition, and prints what each says.
+use frame::Edition;
+
 fn main() {
-    frame_text::run(frame_text::Question::Read);
+    frame_text::run(frame_text::Question::Read(Edition::First));
 }

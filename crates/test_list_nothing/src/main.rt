@@ -1,4 +1,6 @@
 // The listing of no frames.
+use frame::Edition;
+
 fn main() {
-    listing_io::run();
+    listing_io::run(Edition::First);
 }
