@@ -1,5 +1,6 @@
-//! The captures of two tuners (document 01, "Two tuners").
-use crate::{frame, FRAME_BYTES};
+//! The captures of two tuners (document 01, "Two tuners"), whose frames are judged by the edition named.
+use crate::frame::{self, Edition};
+use crate::FRAME_BYTES;
 
 /// "frames end to end, frame n at byte 26n": its bytes, where all 26 lie in the capture.
 fn bytes_at(capture: &[u8], n: u64) -> Option<&[u8]> {
@@ -8,16 +9,16 @@ fn bytes_at(capture: &[u8], n: u64) -> Option<&[u8]> {
 }
 
 /// A tuner's number for frame n, 0 for accepted.
-pub fn number(capture: &[u8], n: u64) -> u8 {
+pub fn number(edition: Edition, capture: &[u8], n: u64) -> u8 {
     // "A frame number whose 26 bytes do not all lie in a capture, however large, is 1 there."
-    bytes_at(capture, n).map_or(1, |frame| frame::judge(frame).err().unwrap_or(0))
+    bytes_at(capture, n).map_or(1, |frame| frame::judge(edition, frame).err().unwrap_or(0))
 }
 
 /// "Asked for frame n, the box answers with the frame's own bytes in the capture it was taken from: the main one if accepted there,
 /// otherwise the spare one if accepted there. Neither: an empty part."
-pub fn frame_at<'a>(main: &'a [u8], spare: &'a [u8], n: u64) -> &'a [u8] {
+pub fn frame_at<'a>(edition: Edition, main: &'a [u8], spare: &'a [u8], n: u64) -> &'a [u8] {
     for capture in [main, spare] {
-        if number(capture, n) == 0 {
+        if number(edition, capture, n) == 0 {
             return bytes_at(capture, n).unwrap_or(&[]);
         }
     }
@@ -25,6 +26,6 @@ pub fn frame_at<'a>(main: &'a [u8], spare: &'a [u8], n: u64) -> &'a [u8] {
 }
 
 /// "A separate question gives both tuners' numbers (0 for accepted), main first."
-pub fn numbers(main: &[u8], spare: &[u8], n: u64) -> (u8, u8) {
-    (number(main, n), number(spare, n))
+pub fn numbers(edition: Edition, main: &[u8], spare: &[u8], n: u64) -> (u8, u8) {
+    (number(edition, main, n), number(edition, spare, n))
 }

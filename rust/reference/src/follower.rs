@@ -1,14 +1,17 @@
-//! Following the update number (document 01, "Following the update number").
-use crate::frame::{self, IDENTIFICATION, UPDATE};
+//! Following the update number (document 01, "Following the update number"; document 02, "The area safety edition").
+use crate::frame::{self, Edition, IDENTIFICATION, UPDATE};
 
-/// "real (0, 1)", "test (2, 3)".
+/// "real (0, 1)", "test (2, 3)". "The follower gets two more kinds": area safety information (5) and its test (6).
 #[derive(Clone, Copy, Debug, PartialEq, Eq)]
 pub enum Kind {
     Real,
     Test,
+    Safety,
+    SafetyTest,
 }
 
-/// "States: quiet, real (0, 1) with update u, test (2, 3) with update u."
+/// "States: quiet, real (0, 1) with update u, test (2, 3) with update u", and likewise for the two more kinds. Any state may be met in any
+/// edition.
 #[derive(Clone, Copy, Debug, PartialEq, Eq)]
 pub enum State {
     Quiet,
@@ -27,9 +30,9 @@ pub enum Event {
     Refused(u8),
 }
 
-/// The new state and the event.
-pub fn follow(old: State, frame: &[u8]) -> (State, Event) {
-    let record = match frame::read(frame) {
+/// The new state and the event, of a frame that is judged by the edition named.
+pub fn follow(edition: Edition, old: State, frame: &[u8]) -> (State, Event) {
+    let record = match frame::read(edition, frame) {
         Ok((record, _)) => record,
         Err(number) => return (old, Event::Refused(number)),
     };
@@ -37,12 +40,15 @@ pub fn follow(old: State, frame: &[u8]) -> (State, Event) {
     let kind = match record[IDENTIFICATION] {
         0 | 1 => Kind::Real,
         2 | 3 => Kind::Test,
+        5 => Kind::Safety,
+        6 => Kind::SafetyTest,
         // "No information: from quiet "quiet", else "ended", and the state is quiet."
         _ if old == State::Quiet => return (State::Quiet, Event::Quiet),
         _ => return (State::Quiet, Event::Ended),
     };
     let event = match old {
         State::Active(before, u) if before == kind => event_of(u, update),
+        // "A warning from quiet, or of the other kind: "begins"." ""other" then means any other."
         _ => Event::Begins,
     };
     (State::Active(kind, update), event)

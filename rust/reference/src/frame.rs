@@ -1,12 +1,36 @@
-//! The warning frame (document 01, "The frame, bit by bit" and "When the box says no"; document 02, "Damaged synchronising bits").
+//! The warning frame (document 01, "The frame, bit by bit" and "When the box says no"; document 02, "The area safety edition" and "Damaged
+//! synchronising bits").
 use crate::code::{encode, frame_of};
 use crate::crc::crc10;
 use crate::{bit, get, put, repair, FRAME_BYTES};
 use std::ops::RangeInclusive;
 
-/// "A record holds only B0, the pattern, the identification and the fields that these, page and kind leave free": 18 numbers, 0 where a
+/// "The caller names the edition wherever a frame or record is judged."
+#[derive(Clone, Copy, Debug, PartialEq, Eq)]
+pub enum Edition {
+    /// "The signal identification table used is the one for chapter 3 and chapter 4 section 2 broadcasting (source document 000, schedule 1)."
+    First,
+    /// "A customer relays chapter 4 section 1 services. There schedule 4 of source document 000 applies".
+    AreaSafety,
+}
+
+pub const EDITIONS: [Edition; 2] = [Edition::First, Edition::AreaSafety];
+
+impl Edition {
+    /// Document 01: "4, 5, 6 are undefined." Document 02: "identification 5 is area safety information, 6 its test; 4 stays undefined." No
+    /// edition knows a number above 7.
+    fn defines(self, identification: u64) -> bool {
+        match identification {
+            0..=3 | 7 => true,
+            5 | 6 => self == Edition::AreaSafety,
+            _ => false,
+        }
+    }
+}
+
+/// "A record holds only B0, the pattern, the identification and the fields that these, page and kind leave free": 19 numbers, 0 where a
 /// field is not free. The constants below are their indices.
-pub type Record = [u64; 18];
+pub type Record = [u64; 19];
 
 pub const REFERENCE: usize = 0;
 pub const PATTERN: usize = 1;
@@ -27,6 +51,8 @@ pub const LONGITUDE: usize = 14;
 pub const DEPTH: usize = 15;
 pub const OCCURRED: usize = 16;
 pub const BROADCASTER: usize = 17;
+/// B55 to B111 of area safety information and of its test, B55 highest (source document 000, schedule 5).
+pub const REGION: usize = 18;
 
 /// "B1..B16: 0011010111101110 (pattern 0) or its complement (pattern 1)."
 const PATTERNS: [u64; 2] = [0b0011_0101_1110_1110, 0b1100_1010_0001_0001];
@@ -44,7 +70,7 @@ pub struct Damage {
 }
 
 /// The places of the record's fields; the pattern, one bit of the record, stands in 16.
-const PLACES: [RangeInclusive<usize>; 18] = [
+const PLACES: [RangeInclusive<usize>; 19] = [
     0..=0,
     1..=16,
     21..=23,
@@ -63,6 +89,7 @@ const PLACES: [RangeInclusive<usize>; 18] = [
     91..=100,
     101..=110,
     56..=66,
+    55..=111,
 ];
 
 /// The width of a field in the record.
@@ -80,13 +107,16 @@ enum Body {
     Place,
     Cancellation,
     NoInformation,
+    Safety,
 }
 
 impl Body {
-    /// The body of an identification 0 to 3 or 7: page 1 is a place or, with kind 1, a cancellation.
+    /// The body of an identification that an edition defines. For 0 to 3 page 1 is a place or, with kind 1, a cancellation; the details of 5 and
+    /// 6 have neither page nor kind.
     fn of(identification: u64, page: u64, kind: u64) -> Body {
         match (identification, page, kind) {
             (7, _, _) => Body::NoInformation,
+            (5 | 6, _, _) => Body::Safety,
             (_, 0, _) => Body::Areas,
             (_, _, 0) => Body::Place,
             _ => Body::Cancellation,
@@ -104,6 +134,8 @@ impl Body {
             }
             Body::Cancellation => fields.extend([UPDATE, TIME, PAGE, TOTAL, ITEM, NUMBER, KIND]),
             Body::NoInformation => fields.push(BROADCASTER),
+            // "their 88 detail bits are carried whole"
+            Body::Safety => fields.extend([UPDATE, TIME, REGION]),
         }
         fields
     }
@@ -111,7 +143,7 @@ impl Body {
     /// The bits of the details that it fixes at 1.
     fn fixed(self) -> Vec<usize> {
         match self {
-            Body::Areas => vec![],
+            Body::Areas | Body::Safety => vec![],
             Body::Place => vec![111],
             Body::Cancellation => (68..=111).collect(),
             Body::NoInformation => (24..=55).chain(67..=111).collect(),
@@ -137,18 +169,24 @@ fn over_limit(body: Body, latitude: u64, longitude: u64) -> bool {
     body == Body::Place && (latitude > 900 || longitude > 1800)
 }
 
-/// Tests 5 to 9, on the repaired frame.
-fn repaired_refusal(frame: &[u8]) -> u8 {
+/// "For 0 to 3 start/end is 00. For 7 start/end is 11 and update is 11." "Start/end is 00 for 5 and 6".
+fn as_asked(identification: u64, start_end: u64, update: u64) -> bool {
+    match identification {
+        7 => start_end == 3 && update == 3,
+        _ => start_end == 0,
+    }
+}
+
+/// Tests 5 to 9, on the repaired frame: "Refusals 6 and 7 now read "by the edition named"".
+fn repaired_refusal(edition: Edition, frame: &[u8]) -> u8 {
     let identification = get(frame, 21..=23);
     let (start_end, update) = (get(frame, 17..=18), get(frame, 19..=20));
     let body = body_of(frame);
     if crc_of(frame) != get(frame, 112..=121) {
         5
-    } else if (4..=6).contains(&identification) {
+    } else if !edition.defines(identification) {
         6
-    } else if (identification < 4 && start_end != 0)
-        || (identification == 7 && (start_end != 3 || update != 3))
-    {
+    } else if !as_asked(identification, start_end, update) {
         7
     } else if body.fixed().iter().any(|&k| !bit(frame, k)) {
         8
@@ -178,7 +216,7 @@ fn pattern_of(frame: &[u8]) -> Result<(usize, u8), u8> {
 
 /// An accepted frame with its damage put right, and that damage; or the refusal's number, "tested 1 to 9 in that order". B0 is "carried as
 /// it stands"; "An accepted frame written again has the clean pattern."
-fn accept(frame: &[u8]) -> Result<([u8; FRAME_BYTES], Damage), u8> {
+fn accept(edition: Edition, frame: &[u8]) -> Result<([u8; FRAME_BYTES], Damage), u8> {
     if frame.len() != FRAME_BYTES {
         return Err(1);
     }
@@ -194,26 +232,26 @@ fn accept(frame: &[u8]) -> Result<([u8; FRAME_BYTES], Damage), u8> {
         repaired: repaired.places,
         differing,
     };
-    match repaired_refusal(&whole) {
+    match repaired_refusal(edition, &whole) {
         0 => Ok((whole, damage)),
         number => Err(number),
     }
 }
 
 /// The number of repaired places, or the refusal's number: "the repaired places, the listing's layout and demand 3 do not change".
-pub fn judge(frame: &[u8]) -> Result<u8, u8> {
-    accept(frame).map(|(_, damage)| damage.repaired)
+pub fn judge(edition: Edition, frame: &[u8]) -> Result<u8, u8> {
+    accept(edition, frame).map(|(_, damage)| damage.repaired)
 }
 
 /// The frame with its damage put right, the pattern's included, or the refusal's number.
-pub fn clean(frame: &[u8]) -> Result<[u8; FRAME_BYTES], u8> {
-    accept(frame).map(|(whole, _)| whole)
+pub fn clean(edition: Edition, frame: &[u8]) -> Result<[u8; FRAME_BYTES], u8> {
+    accept(edition, frame).map(|(whole, _)| whole)
 }
 
 /// The record and the damage, or the refusal's number: "the frame reader passes that on beside the record".
-pub fn read(frame: &[u8]) -> Result<(Record, Damage), u8> {
-    let (whole, damage) = accept(frame)?;
-    let mut record = [0; 18];
+pub fn read(edition: Edition, frame: &[u8]) -> Result<(Record, Damage), u8> {
+    let (whole, damage) = accept(edition, frame)?;
+    let mut record = [0; 19];
     for field in body_of(&whole).free() {
         record[field] = get(&whole, PLACES[field].clone());
     }
@@ -222,9 +260,9 @@ pub fn read(frame: &[u8]) -> Result<(Record, Damage), u8> {
 }
 
 /// "The frame writer tests its buffer (1), then the identification (6), then 10, then 9": the last three, which do not look at a buffer.
-pub fn record_refusal(record: &Record) -> u8 {
+pub fn record_refusal(edition: Edition, record: &Record) -> u8 {
     let identification = record[IDENTIFICATION];
-    if identification > 7 || (4..=6).contains(&identification) {
+    if !edition.defines(identification) {
         return 6;
     }
     let body = Body::of(identification, record[PAGE], record[KIND]);
@@ -232,7 +270,7 @@ pub fn record_refusal(record: &Record) -> u8 {
     let misplaced = |field| {
         record[field] >> width(field) != 0 || (record[field] != 0 && !free.contains(&field))
     };
-    if (0..18).any(misplaced) {
+    if (0..19).any(misplaced) {
         return 10;
     }
     if over_limit(body, record[LATITUDE], record[LONGITUDE]) {
@@ -241,19 +279,20 @@ pub fn record_refusal(record: &Record) -> u8 {
     0
 }
 
-/// Writes a legal record into a buffer of 26 bytes; a refusal leaves it.
-pub fn write(record: &Record, buffer: &mut [u8]) -> u8 {
+/// Writes a record that is legal in the edition into a buffer of 26 bytes; a refusal leaves it.
+pub fn write(edition: Edition, record: &Record, buffer: &mut [u8]) -> u8 {
     if buffer.len() != FRAME_BYTES {
         return 1;
     }
-    let number = record_refusal(record);
+    let number = record_refusal(edition, record);
     if number == 0 {
         buffer.copy_from_slice(&written(record));
     }
     number
 }
 
-/// The frame of a legal record: "start/end, the update of identification 7, fixed bits, filler, CRC and parity are derived".
+/// The frame of a record that is legal in some edition: "start/end, the update of identification 7, fixed bits, filler, CRC and parity are
+/// derived".
 fn written(record: &Record) -> [u8; FRAME_BYTES] {
     let body = Body::of(record[IDENTIFICATION], record[PAGE], record[KIND]);
     let mut frame = [0; FRAME_BYTES];

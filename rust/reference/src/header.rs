@@ -1,6 +1,7 @@
 //! The cable multiplex frame header (document 01, "The cable header").
 use crate::crc::crc32;
-use crate::{bit, frame, get, put};
+use crate::frame::{self, Edition};
+use crate::{bit, get, put};
 use std::ops::RangeInclusive;
 
 pub const HEADER_BYTES: usize = 188;
@@ -152,13 +153,14 @@ fn seal(header: &mut [u8]) {
 }
 
 /// "Laying in writes the repaired 204 bits into the part that starts at byte 99, then the CRC in bytes 184 to 187"; it "tests the header
-/// fully, then the frame". The pattern laid in is the clean one (document 02, e): "Demand 2's repaired frame and laying in include this".
-pub fn lay_in(header: &mut [u8], frame: &[u8]) -> u8 {
+/// fully, then the frame", which is judged by the edition named. The pattern laid in is the clean one (document 02, e): "Demand 2's repaired
+/// frame and laying in include this".
+pub fn lay_in(edition: Edition, header: &mut [u8], frame: &[u8]) -> u8 {
     let number = refusal(header);
     if number != 0 {
         return number;
     }
-    let clean = match frame::clean(frame) {
+    let clean = match frame::clean(edition, frame) {
         Ok(clean) => clean,
         Err(number) => return number,
     };

@@ -1,6 +1,7 @@
 //! The place in degrees, and the desk's place as field values (document 01, "The place in degrees").
 use crate::frame::{
-    record_refusal, Record, DEPTH, IDENTIFICATION, KIND, LATITUDE, LONGITUDE, PAGE, SOUTH, WEST,
+    record_refusal, Edition, Record, DEPTH, IDENTIFICATION, KIND, LATITUDE, LONGITUDE, PAGE, SOUTH,
+    WEST,
 };
 
 /// "The desk's hand-typed place is one record of three doubles."
@@ -21,13 +22,15 @@ pub struct PlaceFields {
     pub depth: u64,
 }
 
-/// "A report is a place with its three doubles, a cancellation, or areas only"; "Identification 7 is a fourth case, nothing."
+/// "A report is a place with its three doubles, a cancellation, or areas only"; "Identification 7 is a fourth case, nothing." For
+/// identification 5 and 6 document 02, a): "their report is a fifth case, without data".
 #[derive(Clone, Copy, Debug, PartialEq)]
 pub enum Report {
     Place(Place),
     Cancellation,
     AreasOnly,
     Nothing,
+    AreaSafety,
 }
 
 /// "Latitude is the tenths as a double divided by ten, rounded once; longitude likewise"; "South or west negates the quotient".
@@ -74,14 +77,15 @@ pub fn fields_of(place: Place) -> Result<PlaceFields, u8> {
     })
 }
 
-/// "For a record that is not legal the answer is the writer's 6, 10 or 9."
-pub fn report(record: &Record) -> Result<Report, u8> {
-    match record_refusal(record) {
+/// "For a record that is not legal the answer is the writer's 6, 10 or 9", by the edition named.
+pub fn report(edition: Edition, record: &Record) -> Result<Report, u8> {
+    match record_refusal(edition, record) {
         0 => {}
         number => return Err(number),
     }
     Ok(match (record[IDENTIFICATION], record[PAGE], record[KIND]) {
         (7, _, _) => Report::Nothing,
+        (5 | 6, _, _) => Report::AreaSafety,
         (_, 0, _) => Report::AreasOnly,
         (_, _, 1) => Report::Cancellation,
         _ => Report::Place(Place {

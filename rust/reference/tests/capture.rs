@@ -1,11 +1,23 @@
-//! Two captures: which frame is taken, from where, and both numbers.
+//! Two captures, in both editions: which frame is taken, from where, and both numbers.
 mod common;
-use common::{flipped, frame, written, ALL_AREAS};
-use reference::capture::{frame_at, numbers};
-use reference::flip_bit;
+use common::{flipped, frame, in_both, written, ALL_AREAS};
+use reference::frame::EDITIONS;
+use reference::{capture, flip_bit};
+
+/// What both editions take, from the same place.
+fn frame_at<'a>(main: &'a [u8], spare: &'a [u8], n: u64) -> &'a [u8] {
+    let taken = EDITIONS.map(|edition| capture::frame_at(edition, main, spare, n));
+    assert_eq!(taken[0], taken[1]);
+    assert!(taken[0].is_empty() || taken[0].as_ptr() == taken[1].as_ptr());
+    taken[0]
+}
+
+fn numbers(main: &[u8], spare: &[u8], n: u64) -> (u8, u8) {
+    in_both(|edition| capture::numbers(edition, main, spare, n))
+}
 
 fn good() -> Vec<u8> {
-    written(&[0; 18]).to_vec()
+    written(&[0; 19]).to_vec()
 }
 
 fn damaged(hits: usize) -> Vec<u8> {

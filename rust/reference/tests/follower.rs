@@ -1,8 +1,16 @@
-//! Following the update number: every pair of updates, every change of kind, refusals, and numbers that no frame carries.
+//! Following the update number in both editions: every pair of updates, every change of kind, refusals, and numbers that no frame carries. The
+//! frames are those that both editions know.
 mod common;
-use common::{flipped, record, written};
-use reference::follower::{follow, reset, Event, Kind, State};
+use common::{flipped, in_both, record, written};
+use reference::follower::{self, reset, Event, Kind, State};
 use reference::frame::{IDENTIFICATION, UPDATE};
+
+/// Every kind that a state may hold, in either edition.
+const KINDS: [Kind; 4] = [Kind::Real, Kind::Test, Kind::Safety, Kind::SafetyTest];
+
+fn follow(old: State, frame: &[u8]) -> (State, Event) {
+    in_both(|edition| follower::follow(edition, old, frame))
+}
 
 fn warning(identification: u64, update: u64) -> [u8; 26] {
     written(&record(&[
@@ -31,11 +39,6 @@ fn every_pair_of_updates() {
         for update in 0..4u64 {
             for identification in 0..4 {
                 let kind = kind_of(identification);
-                let other = if kind == Kind::Real {
-                    Kind::Test
-                } else {
-                    Kind::Real
-                };
                 let event = match events[held as usize].as_bytes()[update as usize] {
                     b'=' => Event::Same,
                     b'+' => Event::Changed,
@@ -45,7 +48,9 @@ fn every_pair_of_updates() {
                 let new = State::Active(kind, update);
                 assert_eq!(follow(State::Active(kind, held), &frame), (new, event));
                 let begins = (new, Event::Begins);
-                assert_eq!(follow(State::Active(other, held), &frame), begins);
+                for other in KINDS.into_iter().filter(|&other| other != kind) {
+                    assert_eq!(follow(State::Active(other, held), &frame), begins);
+                }
                 assert_eq!(follow(State::Quiet, &frame), begins);
             }
         }
@@ -56,7 +61,7 @@ fn every_pair_of_updates() {
 fn no_information_ends() {
     let quiet = |event| (State::Quiet, event);
     assert_eq!(follow(State::Quiet, &nothing()), quiet(Event::Quiet));
-    for kind in [Kind::Real, Kind::Test] {
+    for kind in KINDS {
         let old = State::Active(kind, 2);
         assert_eq!(follow(old, &nothing()), quiet(Event::Ended));
     }
@@ -69,6 +74,7 @@ fn a_refused_frame_keeps_the_state() {
         State::Quiet,
         State::Active(Kind::Real, 1),
         State::Active(Kind::Test, u64::MAX),
+        State::Active(Kind::Safety, 2),
     ] {
         for length in [0, 5, 25, 27] {
             assert_eq!(follow(old, &vec![0; length]), (old, Event::Refused(1)));
@@ -84,6 +90,7 @@ fn a_damaged_pattern() {
         State::Quiet,
         State::Active(Kind::Real, 1),
         State::Active(Kind::Test, 3),
+        State::Active(Kind::SafetyTest, 0),
     ] {
         for sent in [warning(0, 2), warning(1, 1), warning(3, 0), nothing()] {
             for places in [&[16][..], &[1, 9], &[3, 4, 12]] {

@@ -1,8 +1,13 @@
-//! Frames and records: document 01's worked examples, each refusal, their order, and the way there and back.
+//! Frames and records: document 01's worked examples, each refusal, their order, and the way there and back. What is read, judged and written is
+//! the same in both editions.
 mod common;
-use common::{damage, frame, hex, record, written, ALL_AREAS};
+use common::{clean, damage, frame, hex, judge, read, record, record_refusal, sealed, written};
+use common::{flipped, ALL_AREAS};
 use reference::code::GENERATOR;
-use reference::frame::*;
+use reference::frame::{
+    warned, write, Record, AREAS, BROADCASTER, DEPTH, EDITIONS, IDENTIFICATION, KIND, LATITUDE,
+    LONGITUDE, NUMBER, OCCURRED, PAGE, PATTERN, REFERENCE, SOUTH, TIME, TOTAL, UPDATE, WEST,
+};
 use reference::{flip_bit, put};
 
 /// The refusal's number, or 0.
@@ -38,7 +43,7 @@ fn with(base: &Record, changes: &[(usize, u64)]) -> Record {
 fn pattern_0_with_all_else_zero() {
     let all = frame(ALL_AREAS);
     let (read, put_right) = read(&all).expect("accepted");
-    assert_eq!((read, put_right), ([0; 18], damage(0, 0)));
+    assert_eq!((read, put_right), ([0; 19], damage(0, 0)));
     assert!((0..56).all(|area| warned(&read, area)));
     for area in [56, 63, 64, 1 << 32, u64::MAX] {
         assert!(!warned(&read, area), "area {area}");
@@ -185,20 +190,7 @@ fn a_cancellation() {
 #[test]
 fn fixed_bits() {
     // Each bit of the details turned over in turn, with CRC and parity made again.
-    let again = |k: usize, mut frame: [u8; 26]| {
-        flip_bit(&mut frame, k);
-        let bits: Vec<bool> = (21..112).map(|k| reference::bit(&frame, k)).collect();
-        put(
-            &mut frame,
-            112..=121,
-            u64::from(reference::crc::crc10(bits)),
-        );
-        let word =
-            reference::code::encode(&std::array::from_fn(|i| reference::bit(&frame, 17 + i)));
-        let mut whole = reference::code::frame_of(&word);
-        put(&mut whole, 0..=16, 0b0_0011_0101_1110_1110);
-        whole
-    };
+    let again = |k: usize, frame: [u8; 26]| sealed(flipped(frame, &[k]));
     let cancelled = written(&record(&[(PAGE, 1), (KIND, 1)]));
     let nothing = written(&record(&[(IDENTIFICATION, 7), (BROADCASTER, 5)]));
     let located = written(&place());
@@ -268,9 +260,11 @@ fn the_writers_buffer() {
         (26, with(&place(), &[(PAGE, 2)]), 10),
         (26, with(&place(), &[(LATITUDE, 901)]), 9),
     ] {
-        let mut buffer = vec![0xA5; length];
-        assert_eq!(write(&fields, &mut buffer), expected);
-        assert_eq!(buffer, vec![0xA5; length]);
+        for edition in EDITIONS {
+            let mut buffer = vec![0xA5; length];
+            assert_eq!(write(edition, &fields, &mut buffer), expected);
+            assert_eq!(buffer, vec![0xA5; length]);
+        }
     }
 }
 

@@ -1,10 +1,13 @@
 //! The cable header: its places, refusals and their order, the way there and back, laying in and taking out.
 mod common;
-use common::{frame, hex, ALL_AREAS};
+use common::{frame, hex, in_both, ALL_AREAS};
 use reference::code::GENERATOR;
 use reference::crc::crc32;
-use reference::header::*;
-use reference::{bit, flip_bit, put};
+use reference::header::{
+    places, read, record_refusal, refusal, take_out, width, write, Record, AC, CARRIED, CHANGE,
+    EMERGENCY, FIELDS, FORM, IDENTIFIERS, METHOD, PACKET, SLOTS, STATES, SYNC, VALID,
+};
+use reference::{bit, flip_bit, header, put};
 
 /// Byte 0 0x47, all zero but the validity, the fixed bits, identifiers (i, 1) for stream i, and AC bits that are all ones.
 fn model() -> Record {
@@ -25,6 +28,16 @@ fn written(record: &Record) -> [u8; 188] {
     let mut buffer = [0; 188];
     assert_eq!(write(record, &mut buffer), 0);
     buffer
+}
+
+/// Lays in, which in both editions gives the same number and leaves the same header.
+fn lay_in(header: &mut [u8], frame: &[u8]) -> u8 {
+    let (number, after) = in_both(|edition| {
+        let mut after = header.to_vec();
+        (header::lay_in(edition, &mut after, frame), after)
+    });
+    header.copy_from_slice(&after);
+    number
 }
 
 /// The header with these bits turned over, and its CRC made again.

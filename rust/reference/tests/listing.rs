@@ -1,8 +1,7 @@
-//! The listing: document 01's example, short pieces, refusals, and where it stops.
+//! The listing, in both editions: document 01's example, short pieces, refusals, and where it stops.
 mod common;
-use common::{frame, ALL_AREAS};
+use common::{frame, listing, ALL_AREAS};
 use reference::flip_bit;
-use reference::listing::listing;
 
 fn text(input: &[u8]) -> String {
     String::from_utf8(listing(input)).expect("text")

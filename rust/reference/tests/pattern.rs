@@ -1,9 +1,13 @@
-//! Damaged synchronising bits (document 02, e): how many may differ, from which pattern, and what is told, written and tested after them.
+//! Damaged synchronising bits (document 02, e): how many may differ, from which pattern, and what is told, written and tested after them, in both
+//! editions.
 mod common;
-use common::{damage, flipped, frame, hex, record, written, ALL_AREAS};
+use common::ALL_AREAS;
+use common::{clean, damage, flipped, frame, hex, judge, listing, read, record, written};
 use reference::code::GENERATOR;
-use reference::frame::*;
-use reference::listing::listing;
+use reference::frame::{
+    Damage, Record, AREAS, BROADCASTER, DEPTH, IDENTIFICATION, KIND, LATITUDE, LONGITUDE, NUMBER,
+    PAGE, PATTERN, REFERENCE, TIME, UPDATE,
+};
 use reference::put;
 
 /// Document 01's patterns, B1 first.
@@ -67,8 +71,8 @@ fn records() -> [Record; 4] {
 fn the_edges_of_example_11() {
     // The bytes that hold B0 to B16, so that the frames below are known: 1af7 with 3, 4, 12, 13 and 16 of its bits turned over.
     for (n, digits, expected) in [
-        (0, "1af700", Ok(([0; 18], damage(0, 0)))),
-        (3, "6af700", Ok(([0; 18], damage(0, 3)))),
+        (0, "1af700", Ok(([0; 19], damage(0, 0)))),
+        (3, "6af700", Ok(([0; 19], damage(0, 3)))),
         (4, "62f700", Err(3)),
         (12, "650f00", Err(3)),
         (13, "650b00", Ok((record(&[(PATTERN, 1)]), damage(0, 3)))),
@@ -109,7 +113,7 @@ fn every_value_of_b1_to_b16() {
         );
         assert_eq!(from_0 + from_1, 16, "they differ in all sixteen");
         let expected = match (from_0, from_1) {
-            (0..=3, _) => Ok(([0; 18], damage(0, from_0))),
+            (0..=3, _) => Ok(([0; 19], damage(0, from_0))),
             (_, 0..=3) => Ok((record(&[(PATTERN, 1)]), damage(0, from_1))),
             _ => Err(3),
         };
@@ -131,7 +135,7 @@ fn zeros_and_ones_are_neither_pattern() {
 fn three_differing_bits_and_eight_hits() {
     let hits: Vec<usize> = GENERATOR[..8].iter().map(|power| 203 - power).collect();
     let received = flipped(first_turned(3), &hits);
-    assert_eq!(read(&received), Ok(([0; 18], damage(8, 3))));
+    assert_eq!(read(&received), Ok(([0; 19], damage(8, 3))));
     assert_eq!(judge(&received), Ok(8));
     assert_eq!(clean(&received), Ok(frame(ALL_AREAS)));
     assert_eq!(listing(&received), b"1 0 8\nend 1\n");

@@ -1,8 +1,15 @@
 //! Degrees, the desk's place and the report.
 mod common;
-use common::record;
-use reference::frame::*;
-use reference::place::*;
+use common::{in_both, record};
+use reference::frame::{
+    Record, DEPTH, IDENTIFICATION, KIND, LATITUDE, LONGITUDE, PAGE, SOUTH, UPDATE,
+};
+use reference::place::{self, degrees, fields_of, kilometres, Place, PlaceFields, Report};
+
+/// What both editions report.
+fn report(record: &Record) -> Result<Report, u8> {
+    in_both(|edition| place::report(edition, record))
+}
 
 fn desk(latitude: f64, longitude: f64, depth: f64) -> Result<PlaceFields, u8> {
     fields_of(Place {
@@ -114,7 +121,7 @@ fn reports() {
         (&[(IDENTIFICATION, 1)], Ok(Report::AreasOnly)),
         (&[(IDENTIFICATION, 7), (UPDATE, 1)], Err(10)),
         (&[(PAGE, 1), (LATITUDE, 901)], Err(9)),
-        (&[(IDENTIFICATION, 5)], Err(6)),
+        (&[(IDENTIFICATION, 4)], Err(6)),
         (&[(LATITUDE, 901)], Err(10)),
     ];
     for (fields, expected) in cases {

@@ -1,7 +1,10 @@
-//! Frames, written as in the papers.
+//! Frames, written as in the papers, and what both editions answer alike.
 #![allow(dead_code)]
-use reference::flip_bit;
-use reference::frame::{self, Damage, Record};
+use reference::code::{encode, frame_of};
+use reference::crc::crc10;
+use reference::frame::{self, Damage, Edition, Record, EDITIONS};
+use reference::{bit, flip_bit, get, put};
+use std::fmt::Debug;
 
 /// Document 01's example 11: pattern 0 with all else zero.
 pub const ALL_AREAS: &str = "1af70000000000000000000000000000000000000000000000";
@@ -23,7 +26,7 @@ pub fn hex(bytes: &[u8]) -> String {
 
 /// A record with these fields and 0 elsewhere.
 pub fn record(fields: &[(usize, u64)]) -> Record {
-    let mut record = [0; 18];
+    let mut record = [0; 19];
     for &(field, value) in fields {
         record[field] = value;
     }
@@ -46,9 +49,53 @@ pub fn flipped(mut frame: [u8; 26], places: &[usize]) -> [u8; 26] {
     frame
 }
 
-/// The frame of a legal record.
-pub fn written(record: &Record) -> [u8; 26] {
+/// The frame with its CRC and parity made again.
+pub fn sealed(mut frame: [u8; 26]) -> [u8; 26] {
+    let crc = crc10((21..=111).map(|k| bit(&frame, k)));
+    put(&mut frame, 112..=121, u64::from(crc));
+    let word = encode(&std::array::from_fn(|i| bit(&frame, 17 + i)));
+    let mut whole = frame_of(&word);
+    put(&mut whole, 0..=16, get(&frame, 0..=16));
+    whole
+}
+
+/// The frame of a record that is legal in this edition.
+pub fn written_in(edition: Edition, record: &Record) -> [u8; 26] {
     let mut buffer = [0xFF; 26];
-    assert_eq!(frame::write(record, &mut buffer), 0);
+    assert_eq!(frame::write(edition, record, &mut buffer), 0);
     buffer
+}
+
+/// The answer, which is the same in both editions.
+pub fn in_both<T: PartialEq + Debug>(answer: impl Fn(Edition) -> T) -> T {
+    let [first, area_safety] = EDITIONS.map(answer);
+    assert_eq!(first, area_safety, "the first edition and the other");
+    first
+}
+
+/// The frame of a record that is legal in both editions.
+pub fn written(record: &Record) -> [u8; 26] {
+    in_both(|edition| written_in(edition, record))
+}
+
+/// What both editions read.
+pub fn read(frame: &[u8]) -> Result<(Record, Damage), u8> {
+    in_both(|edition| frame::read(edition, frame))
+}
+
+pub fn judge(frame: &[u8]) -> Result<u8, u8> {
+    in_both(|edition| frame::judge(edition, frame))
+}
+
+pub fn clean(frame: &[u8]) -> Result<[u8; 26], u8> {
+    in_both(|edition| frame::clean(edition, frame))
+}
+
+pub fn record_refusal(record: &Record) -> u8 {
+    in_both(|edition| frame::record_refusal(edition, record))
+}
+
+/// What both editions list.
+pub fn listing(input: &[u8]) -> Vec<u8> {
+    in_both(|edition| reference::listing::listing(edition, input))
 }
