@@ -1,12 +1,19 @@
-//! Frames of all sorts: legal, damaged in the word or the pattern, with one fault, with several, noise, and of other lengths.
-use crate::records::{legal_record, Body, BODIES};
+//! Frames of all sorts: legal in both editions or in one, damaged in the word or the pattern, with one fault, with several, noise, and of other
+//! lengths.
+use crate::records::{bodies, legal_record, Body, BODIES};
 use crate::Random;
 use reference::code::{encode, frame_of};
 use reference::crc::crc10;
-use reference::frame::{write, Damage, Record, IDENTIFICATION, PATTERN, REFERENCE};
+use reference::frame::{
+    write, Damage, Edition, Record, EDITIONS, IDENTIFICATION, PATTERN, REFERENCE, REGION, TIME,
+    UPDATE,
+};
 use reference::{bit, flip_bit, get, put, FRAME_BYTES};
 
-/// What the frame's making says of its reading, without any repair.
+/// The bodies that fix bits of the details.
+const FIXING: [Body; 3] = [Body::Place, Body::Cancellation, Body::NoInformation];
+
+/// What the frame's making says of its reading in an edition, without any repair.
 #[derive(Clone, Copy, Debug, PartialEq, Eq)]
 pub enum Expected {
     /// This record; so many places were hit, eight at most, and so many bits of B1 to B16 differ from its pattern, three at most.
@@ -18,22 +25,30 @@ pub enum Expected {
 
 pub struct Sample {
     pub bytes: Vec<u8>,
-    pub expected: Expected,
+    /// In the order of `EDITIONS`.
+    pub expected: [Expected; 2],
+}
+
+impl Sample {
+    pub fn expected(&self, edition: Edition) -> Expected {
+        self.expected[edition as usize]
+    }
 }
 
 /// A frame of any sort.
 pub fn frame(random: &mut Random) -> Sample {
-    match random.below(13) {
+    let edition = random.pick(&EDITIONS);
+    match random.below(14) {
         0 => open(noise(false, random)),
         1 => open(noise(true, random)),
         2 => open(random_message(random)),
         3 => open(random_details(random)),
-        4 => faulty(&[1], random),
-        5 => faulty(&[4], random),
-        6..=8 => faulty(&[], random),
+        4 => faulty(edition, &[1], random),
+        5 => faulty(edition, &[4], random),
+        6..=8 => faulty(edition, &[], random),
         9 | 10 => {
             let fault = 1 + random.below(9) as u8;
-            faulty(&[fault], random)
+            faulty(edition, &[fault], random)
         }
         11 => {
             let record = legal_record(random.pick(&BODIES), random);
@@ -41,9 +56,13 @@ pub fn frame(random: &mut Random) -> Sample {
             let filler = random.below(8) == 0;
             damaged_pattern(&record, flips, hits, filler, random)
         }
+        12 => {
+            let record = legal_record(random.pick(&BODIES), random);
+            headed(&record, random.number() % 128, random)
+        }
         _ => {
             let faults: Vec<u8> = (1..=9).filter(|_| random.below(3) == 0).collect();
-            faulty(&faults, random)
+            faulty(edition, &faults, random)
         }
     }
 }
@@ -52,22 +71,23 @@ pub fn frame(random: &mut Random) -> Sample {
 pub fn open(bytes: [u8; FRAME_BYTES]) -> Sample {
     Sample {
         bytes: bytes.to_vec(),
-        expected: Expected::Open,
+        expected: [Expected::Open; 2],
     }
 }
 
-/// A frame that is accepted, or refused with the first of these faults, which are refusals' numbers.
-pub fn faulty(faults: &[u8], random: &mut Random) -> Sample {
+/// A frame that in this edition is accepted, or refused with the first of these faults, which are refusals' numbers. What the other edition
+/// makes of it is known too.
+pub fn faulty(edition: Edition, faults: &[u8], random: &mut Random) -> Sample {
     let has = |fault: u8| faults.contains(&fault);
     let body = match (has(8), has(9)) {
         (_, true) => Body::Place,
-        (true, _) => random.pick(&BODIES[1..]),
-        _ => random.pick(&BODIES),
+        (true, _) => random.pick(&FIXING),
+        _ => random.pick(bodies(edition)),
     };
     let record = legal_record(body, random);
     let mut frame = written(&record);
     if has(6) {
-        put(&mut frame, 21..=23, 4 + random.up_to(2));
+        put(&mut frame, 21..=23, undefined(edition, random));
     }
     if has(7) {
         let wrong = match record[IDENTIFICATION] {
@@ -82,6 +102,7 @@ pub fn faulty(faults: &[u8], random: &mut Random) -> Sample {
     if has(9) {
         exceed_limits(&mut frame, random);
     }
+    let read = EDITIONS.map(|edition| reading(edition, faults, &record, &frame));
     let crc_fault = if has(5) { 1 + random.up_to(1022) } else { 0 };
     let mut frame = sealed(frame, crc_fault);
     let hits = match (has(4), random.below(2)) {
@@ -105,12 +126,112 @@ pub fn faulty(faults: &[u8], random: &mut Random) -> Sample {
         let length = random.below(60);
         bytes.resize(length + usize::from(length == FRAME_BYTES), 0);
     }
-    let expected = match faults.iter().min() {
-        None => Expected::Read(record, damage(hits, flips)),
-        Some(4) if hits > 9 => Expected::Open,
-        Some(&number) => Expected::Refused(number),
-    };
+    let expected = read.map(|read| match read {
+        Ok(record) => Expected::Read(record, damage(hits, flips)),
+        Err(4) if hits > 9 => Expected::Open,
+        Err(number) => Expected::Refused(number),
+    });
     Sample { bytes, expected }
+}
+
+/// An identification that is undefined in this edition.
+fn undefined(edition: Edition, random: &mut Random) -> u64 {
+    match edition {
+        Edition::First => 4 + random.up_to(2),
+        Edition::AreaSafety => 4,
+    }
+}
+
+/// What an edition makes of the frame of a legal record into which these faults were put. A frame of identification 5 or 6 has of the faults 6 to
+/// 9 only what its own bits say: 6 in the first edition, and 7; the other body's details, if it came from one, are carried whole.
+fn reading(edition: Edition, faults: &[u8], record: &Record, frame: &[u8]) -> Result<Record, u8> {
+    let identification = get(frame, 21..=23);
+    match (faults.iter().min(), edition, identification) {
+        (Some(&fault @ 1..=5), _, _) => Err(fault),
+        (_, _, 4) | (_, Edition::First, 5 | 6) => Err(6),
+        (_, _, 5 | 6) if get(frame, 17..=18) != 0 => Err(7),
+        (_, _, 5 | 6) => Ok(safety_record(frame)),
+        (Some(&fault), _, _) => Err(fault),
+        (None, _, _) => Ok(*record),
+    }
+}
+
+/// The record of a whole frame of identification 5 or 6: B24 to B54 and B55 to B111 as they stand.
+fn safety_record(frame: &[u8]) -> Record {
+    let mut record = [0; 19];
+    record[REFERENCE] = get(frame, 0..=0);
+    record[PATTERN] = get(frame, 1..=1);
+    record[UPDATE] = get(frame, 19..=20);
+    record[IDENTIFICATION] = get(frame, 21..=23);
+    record[TIME] = get(frame, 24..=54);
+    record[REGION] = get(frame, 55..=111);
+    record
+}
+
+/// Frames with everything that start/end, update and identification can be, each with the details of every body, and with some at the ends of what
+/// area safety information carries; hit in up to eight places.
+pub fn all_heads(random: &mut Random) -> Vec<Sample> {
+    let mut samples = vec![];
+    for head in 0..128 {
+        for body in BODIES {
+            let record = legal_record(body, random);
+            samples.push(headed(&record, head, random));
+        }
+        for (time, region) in ENDS {
+            let mut record = legal_record(Body::Safety, random);
+            (record[TIME], record[REGION]) = (time, region);
+            samples.push(headed(&record, head, random));
+        }
+    }
+    samples
+}
+
+/// Times and regions: zeros, ones, the highest and lowest bit of each alone, and only the bits that would be page and kind set or left out.
+pub const ENDS: [(u64, u64); 8] = [
+    (0, 0),
+    (0x7FFF_FFFF, 0x01FF_FFFF_FFFF_FFFF),
+    (1 << 30, 0),
+    (1, 0),
+    (0, 1 << 56),
+    (0, 1),
+    (0, 1 << 56 | 1 << 44),
+    (0x7FFF_FFFF, 0x01FF_FFFF_FFFF_FFFF ^ 1 << 56 ^ 1 << 44),
+];
+
+/// The frame of a legal record with this in B17 to B23, a good CRC and parity, and up to eight hits.
+fn headed(record: &Record, head: u64, random: &mut Random) -> Sample {
+    let mut frame = written(record);
+    put(&mut frame, 17..=23, head);
+    let read = EDITIONS.map(|edition| headed_reading(edition, record, &frame));
+    let mut frame = sealed(frame, 0);
+    let hits = random.below(9);
+    hit(&mut frame, hits, random);
+    let expected = read.map(|read| match read {
+        Some(Ok(record)) => Expected::Read(record, damage(hits, 0)),
+        Some(Err(number)) => Expected::Refused(number),
+        None => Expected::Open,
+    });
+    Sample {
+        bytes: frame.to_vec(),
+        expected,
+    }
+}
+
+/// What an edition makes of the frame of a legal record with something else in B17 to B23. Nothing is said of 0 to 3 and 7 with details that are
+/// another body's.
+fn headed_reading(edition: Edition, record: &Record, frame: &[u8]) -> Option<Result<Record, u8>> {
+    let (head, identification) = (get(frame, 17..=20), get(frame, 21..=23));
+    let mut same = *record;
+    match (identification, record[IDENTIFICATION]) {
+        (4..=6, _) => return Some(reading(edition, &[], record, frame)),
+        (7, _) if head != 15 => return Some(Err(7)),
+        (0..=3, _) if head > 3 => return Some(Err(7)),
+        (7, 7) => {}
+        (0..=3, 0..=3) => same[UPDATE] = head,
+        _ => return None,
+    }
+    same[IDENTIFICATION] = identification;
+    Some(Ok(same))
 }
 
 /// Frames with every number of bits of B1 to B16 turned over, 0 to 16, and every number of places hit, 0 to 10: for each body of the details,
@@ -162,17 +283,23 @@ fn damaged_pattern(
         nearest[PATTERN] = 1 - record[PATTERN];
         differing = 16 - flips;
     }
-    let expected = match (filler, differing, hits) {
+    let expected = EDITIONS.map(|edition| match (filler, differing, hits) {
         (true, _, _) => Expected::Refused(2),
         (_, 4.., _) => Expected::Refused(3),
-        (_, _, 0..=8) => Expected::Read(nearest, damage(hits, differing)),
         (_, _, 9) => Expected::Refused(4),
-        _ => Expected::Open,
-    };
+        (_, _, 10..) => Expected::Open,
+        _ if edition == Edition::First && is_safety(record) => Expected::Refused(6),
+        _ => Expected::Read(nearest, damage(hits, differing)),
+    });
     Sample {
         bytes: frame.to_vec(),
         expected,
     }
+}
+
+/// The first edition does not define its identification, but the other does.
+fn is_safety(record: &Record) -> bool {
+    matches!(record[IDENTIFICATION], 5 | 6)
 }
 
 /// So many hits, eight at most, and so many bits that differ from the pattern, three at most.
@@ -183,10 +310,11 @@ fn damage(hits: usize, differing: usize) -> Damage {
     }
 }
 
-/// The frame of a legal record.
+/// The frame of a record that is legal in some edition: all of them are legal in the area safety edition, and each edition writes them alike.
 pub fn written(record: &Record) -> [u8; FRAME_BYTES] {
     let mut frame = [0; FRAME_BYTES];
-    assert_eq!(write(record, &mut frame), 0, "a legal record");
+    let number = write(Edition::AreaSafety, record, &mut frame);
+    assert_eq!(number, 0, "a legal record");
     frame
 }
 
@@ -219,7 +347,7 @@ pub fn sealed(mut frame: [u8; FRAME_BYTES], crc_fault: u64) -> [u8; FRAME_BYTES]
 /// Some of the details' bits that the body fixes at 1 become 0.
 fn clear_fixed(body: Body, frame: &mut [u8], random: &mut Random) {
     let fixed: Vec<usize> = match body {
-        Body::Areas => return,
+        Body::Areas | Body::Safety => return,
         Body::Place => vec![111],
         Body::Cancellation => (68..=111).collect(),
         Body::NoInformation => (24..=55).chain(67..=111).collect(),
