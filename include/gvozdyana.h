@@ -14,6 +14,8 @@
  * since what stands above it means something only where that is 0. Refusal 1 is also given for a record, word,
  * place or field buffer of another length than the one named here, before anything else is looked at. Frames and
  * headers of another length get their 1 where document 01 tests it.
+ *
+ * Where a frame or a record is judged, the first parameter names the edition, an enum gvz_edition.
  */
 #ifndef GVOZDYANA_H
 #define GVOZDYANA_H
@@ -26,9 +28,9 @@ extern "C" {
 #endif
 
 #define GVZ_VERSION_MAJOR 0
-#define GVZ_VERSION_MINOR 3
+#define GVZ_VERSION_MINOR 4
 #define GVZ_VERSION_PATCH 0
-#define GVZ_VERSION "0.3.0"
+#define GVZ_VERSION "0.4.0"
 
 /* ---- Refusals */
 
@@ -46,9 +48,10 @@ enum gvz_refusal {
     GVZ_REFUSAL_BEYOND_REPAIR = 4,
     /* the CRC differs, in the repaired word */
     GVZ_REFUSAL_FRAME_CRC = 5,
-    /* the identification is 4, 5 or 6, or above 7 in a record */
+    /* the edition named does not have the identification: 4, in the first edition 5 and 6 too, and in a record those
+     * above 7 */
     GVZ_REFUSAL_IDENTIFICATION = 6,
-    /* start/end or update is not as the identification asks */
+    /* start/end or update is not as the identification asks by the edition named */
     GVZ_REFUSAL_START_END_OR_UPDATE = 7,
     /* a bit fixed at 1 is 0 */
     GVZ_REFUSAL_FIXED_BIT = 8,
@@ -75,7 +78,7 @@ enum gvz_refusal {
 
 /* The bytes of a frame, and the values of its record. */
 #define GVZ_FRAME_BYTES 26
-#define GVZ_FRAME_VALUES 18
+#define GVZ_FRAME_VALUES 19
 
 /* Areas are numbered from 0 to GVZ_AREAS - 1, in the order of the notice's schedule 2; 15 is Tokyo. */
 #define GVZ_AREAS 56
@@ -91,12 +94,24 @@ enum gvz_refusal {
  * says nothing of the area. */
 #define GVZ_WARNED(status) ((status) >> 8)
 
-/* What a frame announces, record[GVZ_RECORD_IDENTIFICATION]. 4, 5 and 6 are undefined, and refused. */
+/* The editions: which services the box relays, and so which identifications a frame may have. Any other number is taken
+ * for the first. Frames and records of the identifications that both have are answered alike by both. */
+enum gvz_edition {
+    /* warnings and no information */
+    GVZ_EDITION_FIRST = 0,
+    /* and area safety information */
+    GVZ_EDITION_AREA_SAFETY = 1
+};
+
+/* What a frame announces, record[GVZ_RECORD_IDENTIFICATION]. 4 is undefined, and refused; so are 5 and 6 in the first
+ * edition. */
 enum gvz_identification {
     GVZ_IDENTIFICATION_WARNING_WITH_AREA = 0,
     GVZ_IDENTIFICATION_WARNING_WITHOUT_AREA = 1,
     GVZ_IDENTIFICATION_TEST_WITH_AREA = 2,
     GVZ_IDENTIFICATION_TEST_WITHOUT_AREA = 3,
+    GVZ_IDENTIFICATION_AREA_SAFETY = 5,
+    GVZ_IDENTIFICATION_AREA_SAFETY_TEST = 6,
     GVZ_IDENTIFICATION_NO_INFORMATION = 7
 };
 
@@ -110,17 +125,17 @@ enum gvz_record_index {
     GVZ_RECORD_PATTERN = 1,
     /* 3 bits: an enum gvz_identification */
     GVZ_RECORD_IDENTIFICATION = 2,
-    /* Update, time and page: identification 0 to 3 alone; 0 for 7, although its frame holds ones there. */
+    /* Update and time: identification 0 to 3, 5 and 6; 0 for 7, although its frame holds ones there. */
     /* 2 bits: goes 0, 1, 2, 3 and back to 0, so that the greater one is not the newer one (gvz_follow) */
     GVZ_RECORD_UPDATE = 3,
     /* 31 bits: the current time, a plain number that is carried as it stands */
     GVZ_RECORD_TIME = 4,
-    /* 1 bit: 0 for areas, 1 for a place or a cancellation */
+    /* 1 bit: 0 for areas, 1 for a place or a cancellation; identification 0 to 3 alone */
     GVZ_RECORD_PAGE = 5,
     /* 56 bits: area 0 highest, and 0 MEANS WARNED. It means something only on page 0 of identification 0 to 3;
      * elsewhere it is 0 and nobody is warned. Ask gvz_warned, which looks at all of that. */
     GVZ_RECORD_AREAS = 6,
-    /* The rest but the last: page 1 of identification 0 to 3 alone. */
+    /* The rest but the last two: page 1 of identification 0 to 3 alone. */
     /* 1 bit: how many places are being sent, 0 for one and 1 for two */
     GVZ_RECORD_TOTAL = 7,
     /* 1 bit: tells the places that are being sent apart; the notice gives its values no order */
@@ -142,7 +157,9 @@ enum gvz_record_index {
     /* 10 bits: the time of occurrence, a plain number that is carried as it stands */
     GVZ_RECORD_OCCURRED = 16,
     /* 11 bits: the broadcaster number, of identification 7 alone */
-    GVZ_RECORD_BROADCASTER = 17
+    GVZ_RECORD_BROADCASTER = 17,
+    /* 57 bits, B55 highest: the target region of identification 5 and 6 alone, carried as it stands */
+    GVZ_RECORD_REGION = 18
 };
 
 /* The repair asked for alone: looks at B17 to B203 of the frame. Returns a status: refuses 1, then 4; tells the
@@ -155,13 +172,13 @@ uint32_t gvz_repair(const uint8_t *frame, size_t frame_len, uint8_t *word, size_
 /* Returns the same by a second engine, which divides by a shift register bit by bit: slow, for comparison. */
 uint32_t gvz_repair_register(const uint8_t *frame, size_t frame_len, uint8_t *word, size_t word_len);
 
-/* Reads a frame into a record of GVZ_FRAME_VALUES. Returns a status: refuses 1 to 9; tells the repaired places and the
+/* Reads a frame into a record of GVZ_FRAME_VALUES, by the edition named. Returns a status: refuses 1 to 9; tells the repaired places and the
  * bits of B1 to B16 that differed, which the record does not hold: written again, the frame has the clean pattern. */
-uint32_t gvz_frame_read(const uint8_t *frame, size_t frame_len, uint64_t *record, size_t record_len);
+uint32_t gvz_frame_read(uint32_t edition, const uint8_t *frame, size_t frame_len, uint64_t *record, size_t record_len);
 
-/* Writes a record of GVZ_FRAME_VALUES into a frame of GVZ_FRAME_BYTES. Returns a status: refuses 1, then 6, 10, 9;
- * tells nothing. */
-uint32_t gvz_frame_write(const uint64_t *record, size_t record_len, uint8_t *frame, size_t frame_len);
+/* Writes a record of GVZ_FRAME_VALUES into a frame of GVZ_FRAME_BYTES, by the edition named. Returns a status: refuses
+ * 1, then 6, 10, 9; tells nothing. */
+uint32_t gvz_frame_write(uint32_t edition, const uint64_t *record, size_t record_len, uint8_t *frame, size_t frame_len);
 
 /* Whether a record of GVZ_FRAME_VALUES warns an area: identification 0 to 3, page 0, and the area's bit is 0. Returns
  * a status: refuses 1 for a record of another length, and nothing else; tells GVZ_WARNED, which is 0 for an area
@@ -181,7 +198,8 @@ enum gvz_report_case {
     GVZ_REPORT_NOTHING = 0,
     GVZ_REPORT_PLACE = 1,
     GVZ_REPORT_CANCELLATION = 2,
-    GVZ_REPORT_AREAS_ONLY = 3
+    GVZ_REPORT_AREAS_ONLY = 3,
+    GVZ_REPORT_AREA_SAFETY = 4
 };
 
 /* Where the doubles of a place stand. */
@@ -200,9 +218,9 @@ enum gvz_desk_index {
     GVZ_DESK_DEPTH = 4
 };
 
-/* What a record of GVZ_FRAME_VALUES reports. Returns a status: refuses 6, 10 or 9, as the writer does; tells the
- * case. GVZ_PLACE_VALUES doubles are written for a place alone. */
-uint32_t gvz_report(const uint64_t *record, size_t record_len, double *place, size_t place_len);
+/* What a record of GVZ_FRAME_VALUES reports, by the edition named. Returns a status: refuses 6, 10 or 9, as the writer
+ * does; tells the case. GVZ_PLACE_VALUES doubles are written for a place alone. */
+uint32_t gvz_report(uint32_t edition, const uint64_t *record, size_t record_len, double *place, size_t place_len);
 
 /* The desk's place as GVZ_DESK_VALUES field values. Returns a status: refuses 11 unless each double has the very bits
  * of an allowed field value's image (latitude 0 to 900 tenths, longitude 0 to 1800, both signs; depth 0 to 1023);
@@ -215,6 +233,8 @@ uint32_t gvz_desk(double latitude, double longitude, double depth, uint64_t *fie
 #define GVZ_STATE_QUIET 0u
 #define GVZ_STATE_REAL(u) (4u + (u))
 #define GVZ_STATE_TEST(u) (8u + (u))
+#define GVZ_STATE_SAFETY(u) (12u + (u))
+#define GVZ_STATE_SAFETY_TEST(u) (16u + (u))
 
 /* The event, an enum gvz_event, and the new state's number of a status of gvz_follow, at a refusal too. Hand
  * GVZ_STATE(status), and not the status, to the next call. */
@@ -231,11 +251,11 @@ enum gvz_event {
     GVZ_EVENT_REFUSED = 6
 };
 
-/* One step of the follower, from the state with this number. Returns a status: refuses 1 to 9; tells the event and
+/* One step of the follower, from the state with this number, by the edition named. Returns a status: refuses 1 to 9; tells the event and
  * the new state's number, at a refusal too: then the event is GVZ_EVENT_REFUSED and the state is the old one, which
  * is GVZ_STATE_QUIET where the number handed in is that of no state. Begin with GVZ_STATE_QUIET, and with it again
  * after a reset. */
-uint32_t gvz_follow(uint32_t state, const uint8_t *frame, size_t frame_len);
+uint32_t gvz_follow(uint32_t edition, uint32_t state, const uint8_t *frame, size_t frame_len);
 
 /* ---- Two tuners */
 
@@ -245,17 +265,17 @@ enum gvz_tuner {
     GVZ_TUNER_SPARE = 2
 };
 
-/* Which capture frame n, counted from 0, is taken from: main if it is accepted there, otherwise spare if it is
- * accepted there. Returns an enum gvz_tuner and no status. The frame's bytes are the 26 from byte 26 n on of that
+/* Which capture frame n, counted from 0, is taken from: main if it is accepted there by the edition named, otherwise
+ * spare if it is accepted there. Returns an enum gvz_tuner and no status. The frame's bytes are the 26 from byte 26 n on of that
  * capture, as received, damage included. Captures have any length, and a frame number past a capture is not accepted
  * there. */
-uint32_t gvz_capture_source(const uint8_t *main_capture, size_t main_len, const uint8_t *spare_capture, size_t spare_len,
-    uint64_t n);
+uint32_t gvz_capture_source(uint32_t edition, const uint8_t *main_capture, size_t main_len, const uint8_t *spare_capture,
+    size_t spare_len, uint64_t n);
 
-/* What frame n is refused for in both captures, 0 for accepted; a frame number past a capture is 1 there. Returns the
+/* What frame n is refused for by the edition named in both captures, 0 for accepted; a frame number past a capture is 1 there. Returns the
  * two numbers, GVZ_MAIN_REFUSAL and GVZ_SPARE_REFUSAL, and no status. */
-uint32_t gvz_capture_numbers(const uint8_t *main_capture, size_t main_len, const uint8_t *spare_capture, size_t spare_len,
-    uint64_t n);
+uint32_t gvz_capture_numbers(uint32_t edition, const uint8_t *main_capture, size_t main_len, const uint8_t *spare_capture,
+    size_t spare_len, uint64_t n);
 
 #define GVZ_MAIN_REFUSAL(numbers) ((numbers) & 255u)
 #define GVZ_SPARE_REFUSAL(numbers) ((numbers) >> 8)
@@ -295,8 +315,8 @@ uint32_t gvz_header_read(const uint8_t *header, size_t header_len, uint64_t *rec
 uint32_t gvz_header_write(const uint64_t *record, size_t record_len, uint8_t *header, size_t header_len);
 
 /* Lays a frame, repaired and with the clean pattern, into a header, in place. Returns a status: refuses the header as
- * gvz_header_read does, then the frame as gvz_frame_read does; tells nothing. */
-uint32_t gvz_lay_in(uint8_t *header, size_t header_len, const uint8_t *frame, size_t frame_len);
+ * gvz_header_read does, then the frame as gvz_frame_read does by the edition named; tells nothing. */
+uint32_t gvz_lay_in(uint32_t edition, uint8_t *header, size_t header_len, const uint8_t *frame, size_t frame_len);
 
 /* Writes 204 ones instead of a header's frame, in place. Returns a status: refuses as gvz_header_read does; tells
  * nothing. */
