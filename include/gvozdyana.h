@@ -172,8 +172,9 @@ uint32_t gvz_repair(const uint8_t *frame, size_t frame_len, uint8_t *word, size_
 /* Returns the same by a second engine, which divides by a shift register bit by bit: slow, for comparison. */
 uint32_t gvz_repair_register(const uint8_t *frame, size_t frame_len, uint8_t *word, size_t word_len);
 
-/* Reads a frame into a record of GVZ_FRAME_VALUES, by the edition named. Returns a status: refuses 1 to 9; tells the repaired places and the
- * bits of B1 to B16 that differed, which the record does not hold: written again, the frame has the clean pattern. */
+/* Reads a frame into a record of GVZ_FRAME_VALUES, by the edition named. Returns a status: refuses 1 to 9; tells the
+ * repaired places and the bits of B1 to B16 that differed, which the record does not hold: written again, the frame
+ * has the clean pattern. */
 uint32_t gvz_frame_read(uint32_t edition, const uint8_t *frame, size_t frame_len, uint64_t *record, size_t record_len);
 
 /* Writes a record of GVZ_FRAME_VALUES into a frame of GVZ_FRAME_BYTES, by the edition named. Returns a status: refuses
@@ -251,10 +252,10 @@ enum gvz_event {
     GVZ_EVENT_REFUSED = 6
 };
 
-/* One step of the follower, from the state with this number, by the edition named. Returns a status: refuses 1 to 9; tells the event and
- * the new state's number, at a refusal too: then the event is GVZ_EVENT_REFUSED and the state is the old one, which
- * is GVZ_STATE_QUIET where the number handed in is that of no state. Begin with GVZ_STATE_QUIET, and with it again
- * after a reset. */
+/* One step of the follower, from the state with this number, by the edition named. Returns a status: refuses 1 to 9;
+ * tells the event and the new state's number, at a refusal too: then the event is GVZ_EVENT_REFUSED and the state is
+ * the old one, which is GVZ_STATE_QUIET where the number handed in is that of no state. Begin with GVZ_STATE_QUIET,
+ * and with it again after a reset. */
 uint32_t gvz_follow(uint32_t edition, uint32_t state, const uint8_t *frame, size_t frame_len);
 
 /* ---- Two tuners */
@@ -266,16 +267,16 @@ enum gvz_tuner {
 };
 
 /* Which capture frame n, counted from 0, is taken from: main if it is accepted there by the edition named, otherwise
- * spare if it is accepted there. Returns an enum gvz_tuner and no status. The frame's bytes are the 26 from byte 26 n on of that
- * capture, as received, damage included. Captures have any length, and a frame number past a capture is not accepted
- * there. */
-uint32_t gvz_capture_source(uint32_t edition, const uint8_t *main_capture, size_t main_len, const uint8_t *spare_capture,
-    size_t spare_len, uint64_t n);
+ * spare if it is accepted there. Returns an enum gvz_tuner and no status. The frame's bytes are the 26 from byte 26
+ * n on of that capture, as received, damage included. Captures have any length, and a frame number past a capture is
+ * not accepted there. */
+uint32_t gvz_capture_source(uint32_t edition, const uint8_t *main_capture, size_t main_len,
+    const uint8_t *spare_capture, size_t spare_len, uint64_t n);
 
-/* What frame n is refused for by the edition named in both captures, 0 for accepted; a frame number past a capture is 1 there. Returns the
- * two numbers, GVZ_MAIN_REFUSAL and GVZ_SPARE_REFUSAL, and no status. */
-uint32_t gvz_capture_numbers(uint32_t edition, const uint8_t *main_capture, size_t main_len, const uint8_t *spare_capture,
-    size_t spare_len, uint64_t n);
+/* What frame n is refused for by the edition named in both captures, 0 for accepted; a frame number past a capture
+ * is 1 there. Returns the two numbers, GVZ_MAIN_REFUSAL and GVZ_SPARE_REFUSAL, and no status. */
+uint32_t gvz_capture_numbers(uint32_t edition, const uint8_t *main_capture, size_t main_len,
+    const uint8_t *spare_capture, size_t spare_len, uint64_t n);
 
 #define GVZ_MAIN_REFUSAL(numbers) ((numbers) & 255u)
 #define GVZ_SPARE_REFUSAL(numbers) ((numbers) >> 8)
