@@ -1,16 +1,19 @@
 -- What the editions differ in and what they share, and that area safety information is carried whole. Assumes nothing.
 use mathlib.Core.Path.{_≡_, refl, sym, ap, _∙_, subst}
-use mathlib.Core.Bool.{true≢false}
+use mathlib.Core.Bool.{cond}
 use mathlib.Core.Logic.{_≢_, _⊎_, inl, inr}
 use mathlib.Core.List.{List, _++_, append-nil}
 use Prim.Native.Nat.{ℕ, _^_, _<_}
 use native.Mathlib.Omega.{arith}
-use Rattle.bits.specs.Bits.{bitsOf}
+use lib.Dec.{eqb}
+use Rattle.bits.specs.Bits.{value, bitsOf}
+use Rattle.bits.specs.Field.{fieldAt}
 use Rattle.bits.specs.Layout.{Fit, pack}
 use Rattle.bits.specs.Segment.{widths, freeWidths, withFixed, packSegments}
+use Rattle.bits.proofs.Bits.{value-bitsOf-fit}
 use Rattle.bits.proofs.Refusal.{refusal-here}
 use Rattle.dsc.specs.Repair.{repairOf}
-use Rattle.frame.specs.Identification.{classOf, isUndefined}
+use Rattle.frame.specs.Identification.{classOf, startEndOf, isUndefined}
 use Rattle.frame.specs.Body.{row, layout}
 use Rattle.frame.specs.Fields.{gather, scatter, fieldWidths, bodyValues, recordBody}
 use Rattle.frame.specs.Read.{identificationIn, detailsIn, frameRefusal, placesIn, judgeOf, readOf, cleanOf, cleanedOf}
@@ -25,9 +28,9 @@ use Rattle.frame.specs.declared.Body.the-variants.{SafetyInformation}
 use Rattle.frame.specs.declared.Record.{Record}
 use Rattle.frame.specs.declared.Damage.{Damage}
 use Rattle.frame.specs.declared.Reading.the-variants.{Accepted}
-use Rattle.frame.proofs.Identifications.{class-alike, beyond, safety-class}
+use Rattle.frame.proofs.Identifications.{class-alike, beyond, safety-class, start-end}
 use Rattle.frame.proofs.Bodies.{legal-sound, sound-legal}
-use Rattle.frame.proofs.Frames.{length-frame, parts-frame, own-parts}
+use Rattle.frame.proofs.Frames.{start-lt, length-frame, parts-frame, own-parts}
 use Rattle.frame.proofs.Promises.{demand2}
 
 -- ---- what the editions share: an answer looks at the edition for the class alone
@@ -70,6 +73,15 @@ first-unread f r d e =
     let other : (r .identification ≡ 5) ⊎ (r .identification ≡ 6) → ⊥ = λ s. omega (arith, legal, first-unwritten r s) in
     ((λ z. other (inl z)), (λ z. other (inr z)))
 
+begins-with : (ed : Edition) (f : List ℕ) (r : Record) (d : Damage) → readOf ed f ≡ Accepted r d
+    → fieldAt (cleanOf f) 17 2 ≡ cond (eqb (r .identification) 7) 3 0
+begins-with ed f r d e =
+    let c = classOf ed (r .identification) in
+    ap (λ (g : List ℕ). fieldAt g 17 2) (sym (demand2 ed .written-again f r d e))
+    ∙ ap value (own-parts ed r (frameOf ed r) (length-frame ed r) (parts-frame ed r .word) .start)
+    ∙ value-bitsOf-fit 2 (startEndOf c) (start-lt c)
+    ∙ start-end ed (r .identification)
+
 pub editions : Editions
 unfolding classOf
 editions =
@@ -79,6 +91,7 @@ editions =
       beyond = beyond;
       frame-alike = frame-alike;
       record-alike = record-alike;
+      start-end = begins-with;
       first-unwritten = first-unwritten;
       first-unread = first-unread;
     }

@@ -52,7 +52,7 @@ update-lt SafetyInformation r safety h = h
 update-lt NoInformation r silent h = omega arith
 update-lt NoInformation r undefined h = omega arith
 
-start-lt : (c : Class) → startEndOf c < 4
+pub start-lt : (c : Class) → startEndOf c < 4
 start-lt Warning = omega arith
 start-lt Safety = omega arith
 start-lt Silent = omega arith
