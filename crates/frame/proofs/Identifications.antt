@@ -55,6 +55,6 @@ start-end First i = early-start i
 start-end AreaSafety i = go (eqb i 5) (eqb i 6) refl refl
   where
     go : (s t : Bool) → eqb i 5 ≡ s → eqb i 6 ≡ t → startEndOf (cond (s || t) Safety (schedule1 i)) ≡ cond (eqb i 7) 3 0
-    go true t e f = rw (eqb-true i 5 e)
-    go false true e f = rw (eqb-true i 6 f)
+    go true t e f = ap (λ (n : ℕ). cond (eqb n 7) 3 0) (sym (eqb-true i 5 e))
+    go false true e f = ap (λ (n : ℕ). cond (eqb n 7) 3 0) (sym (eqb-true i 6 f))
     go false false e f = early-start i

@@ -1,5 +1,8 @@
 -- `follower::seen_of` meets its contract. Assumes nothing.
+use mathlib.Core.Path.{sym, ap, _∙_}
 use borrow.Author.Needs.{needs}
+use Rattle.frame.specs.declared.Class.{Class}
+use Rattle.follower.specs.Follow.{seenIn, seenOf}
 use Rattle.follower.proofs.seen_of.Statement.{statement}
 use Rattle.follower.proofs.seen_of.Tie as tie
 
@@ -19,7 +22,12 @@ returns : tie.Need-returns
 returns c = rw (c .before .reading .given .1)
 
 returns-2 : tie.Need-returns-2
-returns-2 c = rw (c .before .before .before .reading2 .given .1, c .seen-in .ensures, c .before .class-of .ensures)
+returns-2 c =
+    let known = c .before .before .before in
+    let s = known .before .before .args in
+    c .seen-in .ensures
+    ∙ ap (λ (k : Class). seenIn k (known .reading2 .given .0 .0)) (c .before .class-of .ensures)
+    ∙ ap (seenOf (s .edition)) (sym (known .reading2 .given .1))
 
 pub seen-of-spec : {M : Type 1} → statement M
 seen-of-spec =

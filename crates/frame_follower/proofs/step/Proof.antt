@@ -1,6 +1,7 @@
 -- `frame_follower::step` meets its contract. Assumes nothing.
+use mathlib.Core.Path.{ap, _∙_}
 use borrow.Author.Needs.{needs}
-use Rattle.follower.specs.Follow.{stepOf}
+use Rattle.follower.specs.Follow.{stepSeen, seenOf, stepOf}
 use Rattle.frame_follower.proofs.step.Statement.{statement}
 use Rattle.frame_follower.proofs.step.Tie as tie
 
@@ -15,7 +16,11 @@ follow-requires c κs = search needs
 
 returns : tie.Need-returns
 unfolding stepOf
-returns c = rw (c .follow .ensures, c .before .seen-of .ensures, c .before .before .read .ensures)
+returns c =
+    let read = c .before .before in
+    let s = read .before .before .args in
+    c .follow .ensures
+    ∙ ap (stepSeen (s .state)) (c .before .seen-of .ensures ∙ ap (seenOf (s .edition)) (read .read .ensures))
 
 pub step-spec : {M : Type 1} → statement M
 step-spec = tie.close (tie.spec read-requires seen-of-requires follow-requires returns)
