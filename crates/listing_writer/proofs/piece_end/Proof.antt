@@ -1,0 +1,20 @@
+-- `listing_writer::piece_end` meets its contract. `search` finds this too; the file is here so that another end is refused by the numbers at which it differs. Assumes nothing.
+use native.Mathlib.Omega.{arith}
+use borrow.Author.Needs.{needs}
+use Rattle.listing_writer.proofs.piece_end.Statement.{statement}
+use Rattle.listing_writer.proofs.piece_end.Tie as tie
+
+sub-if1 : tie.Need-sub-if1
+sub-if1 c = search needs
+
+returns : tie.Need-returns
+returns c = omega (arith, c .if1 .taken)
+
+add-result : tie.Need-add-result
+add-result c = search needs
+
+returns-2 : tie.Need-returns-2
+returns-2 c = omega (arith, c .if1 .left)
+
+pub piece-end-spec : {M : Type 1} → statement M
+piece-end-spec = tie.close (tie.spec sub-if1 returns add-result returns-2)
