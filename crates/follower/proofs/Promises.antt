@@ -12,7 +12,7 @@ use Rattle.bits.specs.Refusal.{firstRefusal}
 use Rattle.frame.specs.Identification.{classOf, isUndefined}
 use Rattle.bits.specs.Segment.{freeWidths}
 use Rattle.frame.specs.Body.{row, layout}
-use Rattle.frame.specs.Fields.{scatter, fieldWidths}
+use Rattle.frame.specs.Fields.{recordFrom, scatter, fieldWidths}
 use Rattle.dsc.specs.Repair.{repairOf}
 use Rattle.frame.specs.Read.{identificationIn, noDamage, readOf, readingNumber}
 use Rattle.frame.specs.Promises.{NotSafety}
@@ -72,28 +72,7 @@ silence-number (Active h v) = refl
 
 -- identification 0 to 3: a warning for all areas; 5 and 6: area safety information; 7, with update 0: no information
 announcing : (identification update : ℕ) → Record
-announcing i u =
-    record {
-      reference = 0;
-      pattern = 0;
-      identification = i;
-      update = u;
-      time = 0;
-      page = 0;
-      areas = 0;
-      total = 0;
-      item = 0;
-      number = 0;
-      kind = 0;
-      south = 0;
-      latitude = 0;
-      west = 0;
-      longitude = 0;
-      depth = 0;
-      occurred = 0;
-      broadcaster = 0;
-      region = 0;
-    }
+announcing i u = recordFrom (0 ∷ 0 ∷ i ∷ u ∷ [])
 
 module _ (ed : Edition) where
   -- ---- a step, by what the frame is
@@ -187,7 +166,7 @@ module _ (ed : Edition) where
 
   -- it is legal, where the edition has it
   legal : (c : Class) (i u : ℕ) → classOf ed i ≡ c → isFollowed c ≡ true → i < 8 → u < 4 → Legal ed (announcing i u)
-  unfolding announcing recordRefusal firstRefusal row layout scatter fieldWidths freeWidths
+  unfolding announcing recordFrom recordRefusal firstRefusal row layout scatter fieldWidths freeWidths
   legal class.Warning i u q f hi hu = rw (q, lt-ltb i 8 hi, lt-ltb u 4 hu)
   legal class.Safety i u q f hi hu = rw (q, lt-ltb i 8 hi, lt-ltb u 4 hu)
   legal class.Silent i u q f hi hu = absurd (true≢false (sym f))
@@ -202,7 +181,7 @@ module _ (ed : Edition) where
       go false e = omega (arith, ltb-false 7 i e)
 
   some : (i u : ℕ) → isFollowed (classOf ed i) ≡ true → u < 4 → Some ed (kindOf i) u
-  unfolding announcing
+  unfolding announcing recordFrom
   some i u f h =
       let r = announcing i u in
       record {
@@ -219,7 +198,7 @@ module _ (ed : Edition) where
       }
 
   silence-some : SomeSilence ed
-  unfolding announcing recordRefusal firstRefusal row layout scatter fieldWidths freeWidths
+  unfolding announcing recordFrom recordRefusal firstRefusal row layout scatter fieldWidths freeWidths
   silence-some =
       let r = announcing 7 0 in
       let legal : Legal ed r = rw (silent-class ed) in

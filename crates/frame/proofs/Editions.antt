@@ -1,8 +1,8 @@
 -- What the editions differ in and what they share, and that area safety information is carried whole. Assumes nothing.
-use mathlib.Core.Path.{_≡_, refl, sym, ap, _∙_, subst}
+use mathlib.Core.Path.{_≡_, refl, sym, ap, _∙_}
 use mathlib.Core.Bool.{cond}
-use mathlib.Core.Logic.{_≢_, _⊎_, inl, inr}
-use mathlib.Core.List.{List, _++_, append-nil}
+use mathlib.Core.Logic.{_⊎_, inl, inr}
+use mathlib.Core.List.{List, [], _∷_, _++_, append-nil}
 use Prim.Native.Nat.{ℕ, _^_, _<_}
 use native.Mathlib.Omega.{arith}
 use lib.Dec.{eqb}
@@ -15,13 +15,12 @@ use Rattle.bits.proofs.Refusal.{refusal-here}
 use Rattle.dsc.specs.Repair.{repairOf}
 use Rattle.frame.specs.Identification.{classOf, startEndOf, isUndefined}
 use Rattle.frame.specs.Body.{row, layout}
-use Rattle.frame.specs.Fields.{gather, scatter, fieldWidths, bodyValues, recordBody}
+use Rattle.frame.specs.Fields.{gather, bodyValues, recordBody}
 use Rattle.frame.specs.Read.{identificationIn, detailsIn, frameRefusal, placesIn, judgeOf, readOf, cleanOf, cleanedOf}
 use Rattle.frame.specs.Write.{Legal, announced, messageBits, recordRefusal, frameOf, writeNumber, writeOf}
 use Rattle.frame.specs.Promises.{NotSafety, FrameAlike, RecordAlike, Editions, safetyRecord, CarriedWhole}
 use Rattle.frame.specs.declared.Edition.{Edition}
 use Rattle.frame.specs.declared.Edition.the-variants.{First, AreaSafety}
-use Rattle.frame.specs.declared.Class.{Class}
 use Rattle.frame.specs.declared.Class.the-variants.{Safety}
 use Rattle.frame.specs.declared.Body.{Body}
 use Rattle.frame.specs.declared.Body.the-variants.{SafetyInformation}
@@ -29,7 +28,7 @@ use Rattle.frame.specs.declared.Record.{Record}
 use Rattle.frame.specs.declared.Damage.{Damage}
 use Rattle.frame.specs.declared.Reading.the-variants.{Accepted}
 use Rattle.frame.proofs.Identifications.{class-alike, beyond, safety-class, start-end}
-use Rattle.frame.proofs.Bodies.{legal-sound, sound-legal}
+use Rattle.frame.proofs.Bodies.{sound-legal, record-fit, taken}
 use Rattle.frame.proofs.Frames.{start-lt, length-frame, parts-frame, own-parts}
 use Rattle.frame.proofs.Promises.{demand2}
 
@@ -113,24 +112,27 @@ details ed f r d e s =
     ∙ ap (λ (b : Body). packSegments (layout b) (bodyValues b r)) (safety-body ed r s)
     ∙ in-details r
 
+fit : (t g : ℕ) → t < 2 ^ 31 → g < 2 ^ 57 → Fit (freeWidths (layout SafetyInformation)) (t ∷ g ∷ [])
+unfolding row layout freeWidths
+fit t g ht hg = (ht, (hg, tt))
+
+three-bits : (i : ℕ) → (i ≡ 5) ⊎ (i ≡ 6) → i < 8
+three-bits i (inl e) = omega arith
+three-bits i (inr e) = omega arith
+
 legal : (x p i u t g : ℕ) → x < 2 → p < 2 → (i ≡ 5) ⊎ (i ≡ 6) → u < 4 → t < 2 ^ 31 → g < 2 ^ 57 → Legal AreaSafety (safetyRecord x p i u t g)
-unfolding safetyRecord row layout scatter fieldWidths freeWidths
 legal x p i u t g hx hp hi hu ht hg =
+    let vs : List ℕ = t ∷ g ∷ [] in
     let r = safetyRecord x p i u t g in
-    let class = safety-class i hi .1 in
+    let class : classOf AreaSafety (r .identification) ≡ Safety =
+    ap (classOf AreaSafety) (taken SafetyInformation x p i u vs .identification) ∙ safety-class i hi .1 in
     let body = safety-body AreaSafety r class in
-    let under : i < 8 = below-eight hi in
-    let none : _<_ 0 1 = omega arith in
     sound-legal AreaSafety r
     (record {
       known = ap isUndefined class;
-      fit = rw body (hx, (hp, (under, (hu, (ht, (none, (none, (none, (none, (none, (none, (none, (none, (none, (none, (none, (none, (none, (hg, tt)))))))))))))))))));
+      fit = rw body (record-fit SafetyInformation x p i u vs hx hp (three-bits i hi) hu (fit t g ht hg));
       limits = rw body;
     })
-  where
-    below-eight : (i ≡ 5) ⊎ (i ≡ 6) → i < 8
-    below-eight (inl e) = omega arith
-    below-eight (inr e) = omega arith
 
 pub carried-whole : CarriedWhole
 carried-whole = record { details = details; legal = legal }
