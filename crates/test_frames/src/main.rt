@@ -1,16 +1,22 @@
-// Runs test cases of frames and records: see `test_cases`. The cases, and what they must answer, come from rust/vectors.
+// Runs test cases of frames and records: see `test_cases`. The cases, and what they must answer, come from rust/vectors. A case's third number names the
+// edition, as a C program does.
 use test_cases::Case;
 
+// The edition that a case names.
+fn edition(case: Case) -> u32 {
+    (case.c % 0x100000000) as u32
+}
+
 // Answers the reader.
-fn frame_read(frame: &[u8], lent: &mut [u64]) -> bool {
-    test_cases::hex(abi_frame::frame_read(frame, lent) as u64);
+fn frame_read(edition: u32, frame: &[u8], lent: &mut [u64]) -> bool {
+    test_cases::hex(abi_frame::frame_read(edition, frame, lent) as u64);
     test_cases::end_values(lent)
 }
 
-fn read(frame: &[u8], bytes: &[u8]) -> bool {
+fn read(edition: u32, frame: &[u8], bytes: &[u8]) -> bool {
     let mut lent = test_values::no_values();
     let n = test_values::values(bytes, &mut lent);
-    frame_read(frame, &mut lent[0..n])
+    frame_read(edition, frame, &mut lent[0..n])
 }
 
 // The status of an operation on a record.
@@ -18,7 +24,7 @@ fn status_of(case: Case, fields: &[u64], lent: &mut [u8]) -> u64 {
     let operation = case.operation;
     match operation {
         1 => abi_frame::warned(fields, case.a) as u64,
-        _ => abi_frame::frame_write(fields, lent) as u64,
+        _ => abi_frame::frame_write(edition(case), fields, lent) as u64,
     }
 }
 
@@ -32,7 +38,7 @@ fn answer(case: Case, input: &[u8], lent: &mut [u8]) -> bool {
 
 fn run(case: Case, input: &[u8], lent: &mut [u8]) -> bool {
     if case.operation == 0 {
-        return read(input, lent);
+        return read(edition(case), input, lent);
     }
     if case.operation < 3 {
         return answer(case, input, lent);

@@ -1,9 +1,10 @@
-// Runs test cases of laying a frame into a header and taking it out: see `test_cases`. The cases, and what they must answer, come from rust/vectors.
+// Runs test cases of laying a frame into a header and taking it out: see `test_cases`. The cases, and what they must answer, come from rust/vectors. A case's
+// third number names the edition, as a C program does.
 use test_cases::Case;
 
-fn answer(operation: u8, input: &[u8], lent: &mut [u8]) -> u64 {
+fn answer(operation: u8, edition: u32, input: &[u8], lent: &mut [u8]) -> u64 {
     match operation {
-        0 => abi_laying::lay_in(lent, input) as u64,
+        0 => abi_laying::lay_in(edition, lent, input) as u64,
         _ => abi_laying::take_out(lent) as u64,
     }
 }
@@ -12,7 +13,8 @@ fn run(case: Case, input: &[u8], lent: &mut [u8]) -> bool {
     if 1 < case.operation {
         return test_cases::wrong().found;
     }
-    test_cases::hex(answer(case.operation, input, lent));
+    let edition = (case.c % 0x100000000) as u32;
+    test_cases::hex(answer(case.operation, edition, input, lent));
     test_cases::end_bytes(lent)
 }
 

@@ -1,4 +1,5 @@
-// Runs test cases of reports and places, doubles by their bits: see `test_cases`. The cases, and what they must answer, come from rust/vectors.
+// Runs test cases of reports and places, doubles by their bits: see `test_cases`. The cases, and what they must answer, come from rust/vectors. The third number
+// of a report names the edition, as a C program does.
 use test_cases::Case;
 
 fn put_doubles(s: &[f64; 4]) {
@@ -8,18 +9,18 @@ fn put_doubles(s: &[f64; 4]) {
 }
 
 // Lends so many of four doubles, and tells them all.
-fn lend_doubles(fields: &[u64], before: f64, lent: usize) -> u64 {
+fn lend_doubles(edition: u32, fields: &[u64], before: f64, lent: usize) -> u64 {
     let mut place = [before; 4];
     let n = numbers::smaller(lent, 4);
-    let status = abi_place::report(fields, &mut place[0..n]) as u64;
+    let status = abi_place::report(edition, fields, &mut place[0..n]) as u64;
     put_doubles(&place);
     status
 }
 
-fn report(numbers: &[u8], before: f64, lent: usize) -> u64 {
+fn report(edition: u32, numbers: &[u8], before: f64, lent: usize) -> u64 {
     let mut fields = test_values::no_values();
     let n = test_values::values(numbers, &mut fields);
-    lend_doubles(&fields[0..n], before, lent)
+    lend_doubles(edition, &fields[0..n], before, lent)
 }
 
 fn desk(a: u64, b: u64, c: u64, lent: &mut [u64]) -> u64 {
@@ -61,7 +62,12 @@ fn longitudes(flag: u64, first: u64, turned: u64, out: &mut [u64]) -> u64 {
 fn status_of(case: Case, input: &[u8], lent: &mut [u64]) -> u64 {
     let operation = case.operation;
     match operation {
-        0 => report(input, test_values::double(case.a), case.b as usize),
+        0 => report(
+            (case.c % 0x100000000) as u32,
+            input,
+            test_values::double(case.a),
+            case.b as usize,
+        ),
         1 => desk(case.a, case.b, case.c, lent),
         2 => degrees(case.a, case.b),
         3 => test_values::bits_of(place_images::kilometres(case.a)),

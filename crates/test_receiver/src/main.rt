@@ -1,16 +1,20 @@
-// Runs test cases of the follower and of the captures: see `test_cases`. The cases, and what they must answer, come from rust/vectors.
+// Runs test cases of the follower and of the captures: see `test_cases`. The cases, and what they must answer, come from rust/vectors. A case's third
+// number names the edition, as a C program does.
 use follower::Follower;
 use follower_events::Event;
 use follower_events::Kind;
+use frame::Edition;
 use test_cases::Case;
 
-// ---- the follower from any update number: a state is a kind, 0 quiet, 1 real, 2 test, and an update number
+// ---- the follower from any update number: a state is a kind, 0 quiet, 1 real, 2 test, 3 safety, 4 safety test, and an update number
 
 fn state_of(kind: u64, update: u64) -> Follower {
     match kind {
         0 => Follower::new(),
         1 => Follower::Active(Kind::Real, update),
-        _ => Follower::Active(Kind::Test, update),
+        2 => Follower::Active(Kind::Test, update),
+        3 => Follower::Active(Kind::Safety, update),
+        _ => Follower::Active(Kind::SafetyTest, update),
     }
 }
 
@@ -18,6 +22,8 @@ fn put_kind(kind: Kind) {
     match kind {
         Kind::Real => test_cases::hex(1),
         Kind::Test => test_cases::hex(2),
+        Kind::Safety => test_cases::hex(3),
+        Kind::SafetyTest => test_cases::hex(4),
     }
 }
 
@@ -44,8 +50,8 @@ fn event_number(event: Event) -> u64 {
 }
 
 // The next state is told before the event.
-fn step(state: Follower, frame: &[u8]) -> u64 {
-    let step = frame_follower::step(state, frame);
+fn step(edition: Edition, state: Follower, frame: &[u8]) -> u64 {
+    let step = frame_follower::step(edition, state, frame);
     let event = step.event;
     let next = step.next;
     put_state(next);
@@ -60,33 +66,52 @@ fn reset(state: Follower) -> u64 {
 // ---- the captures stand one after the other, the main one of so many bytes
 
 // The frame itself goes into the lent bytes; the status is its length.
-fn frame_at<'a>(main: &'a [u8], spare: &'a [u8], n: usize, lent: &mut [u8]) -> u64 {
-    let frame = capture::frame_at(main, spare, n);
+fn frame_at<'a>(
+    edition: Edition,
+    main: &'a [u8],
+    spare: &'a [u8],
+    n: usize,
+    lent: &mut [u8],
+) -> u64 {
+    let frame = capture::frame_at(edition, main, spare, n);
     if frame.len() <= lent.len() {
         bytes::copy(frame, lent);
     }
     frame.len() as u64
 }
 
-fn captures(operation: u8, length: usize, n: u64, input: &[u8], lent: &mut [u8]) -> u64 {
-    let cut = numbers::smaller(length, input.len());
+fn captures(case: Case, edition: u32, input: &[u8], lent: &mut [u8]) -> u64 {
+    let operation = case.operation;
+    let n = case.b;
+    let cut = numbers::smaller(case.a as usize, input.len());
     let main = &input[0..cut];
     let spare = &input[cut..];
     match operation {
-        3 => abi_receiver::capture_source(main, spare, n) as u64,
-        4 => abi_receiver::capture_numbers(main, spare, n) as u64,
-        _ => frame_at(main, spare, n as usize, lent),
+        3 => abi_receiver::capture_source(edition, main, spare, n) as u64,
+        4 => abi_receiver::capture_numbers(edition, main, spare, n) as u64,
+        _ => frame_at(
+            abi_edition::edition_of(edition),
+            main,
+            spare,
+            n as usize,
+            lent,
+        ),
     }
 }
 
 // ---- the operations
 
-fn answer(operation: u8, a: u64, b: u64, input: &[u8], lent: &mut [u8]) -> u64 {
+fn answer(case: Case, edition: u32, input: &[u8], lent: &mut [u8]) -> u64 {
+    let operation = case.operation;
     match operation {
-        0 => abi_receiver::follow((a % 0x100000000) as u32, input) as u64,
-        1 => step(state_of(a, b), input),
-        2 => reset(state_of(a, b)),
-        _ => captures(operation, a as usize, b, input, lent),
+        0 => abi_receiver::follow(edition, (case.a % 0x100000000) as u32, input) as u64,
+        1 => step(
+            abi_edition::edition_of(edition),
+            state_of(case.a, case.b),
+            input,
+        ),
+        2 => reset(state_of(case.a, case.b)),
+        _ => captures(case, edition, input, lent),
     }
 }
 
@@ -94,7 +119,8 @@ fn run(case: Case, input: &[u8], lent: &mut [u8]) -> bool {
     if 5 < case.operation {
         return test_cases::wrong().found;
     }
-    test_cases::hex(answer(case.operation, case.a, case.b, input, lent));
+    let edition = (case.c % 0x100000000) as u32;
+    test_cases::hex(answer(case, edition, input, lent));
     test_cases::end_bytes(lent)
 }
 
