@@ -1,6 +1,6 @@
 //! The cable header: judged, read and written.
 use crate::laying;
-use crate::{because, status, Call, Case, Lends, Operation};
+use crate::{because, status, Call, Case, Lends, Operation, FIRST};
 use reference::crc::crc32;
 use reference::header::*;
 use reference::{flip_bit, put};
@@ -394,7 +394,7 @@ fn order() -> Vec<Case> {
 /// Headers into which frames were laid in turn.
 fn after_laying() -> Vec<Case> {
     let case = |(name, header): (&str, Bytes)| {
-        let (_, header) = laying::in_turn(name, header);
+        let (_, header) = laying::in_turn(FIRST, name, header);
         read_cases(&format!("{name} header after frames were laid in"), &header)
     };
     laying::headers().into_iter().flat_map(case).collect()

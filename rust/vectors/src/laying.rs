@@ -1,14 +1,15 @@
 //! A frame laid into a header, and taken out.
 use crate::frames::{frame, frames};
 use crate::headers::{filled, flipped, model_header, written, Bytes};
-use crate::{because, status, Case, Lends, Operation};
+use crate::{apart, because, by_both, edition_of, status, Case, Lends, Operation};
+use crate::{AREA_SAFETY, FIRST};
 use reference::header::{lay_in, take_out};
 
 pub(crate) const OPERATIONS: [Operation; 2] = [
     Operation {
         name: "lay_in",
         lends: Lends::Bytes,
-        status: |call| status(lay_in(&mut call.lent, &call.input), 0),
+        status: |call| status(lay_in(call.edition(), &mut call.lent, &call.input), 0),
     },
     Operation {
         name: "take_out",
@@ -21,7 +22,11 @@ pub(crate) fn cases() -> Vec<Case> {
     [
         because(
             "each kind of frame, accepted and refused, into one header",
-            laid(),
+            by_both(&laid()),
+        ),
+        because(
+            "area safety information is laid in by its edition alone; any other number is the first",
+            safety(),
         ),
         because(
             "a refused header is left, and is tested before the frame",
@@ -39,7 +44,7 @@ fn lay(what: impl Into<String>, header: &[u8], frame: &[u8]) -> Case {
     Case::new("lay_in", what).lent(header).input(frame)
 }
 
-/// Each frame of the reader's table into the model header, and pieces that are no frame.
+/// Each frame of the reader's tables into the model header, and pieces that are no frame.
 fn laid() -> Vec<Case> {
     let case = |(frame, what): (Vec<u8>, &str)| {
         let case = lay(format!("model header: {what}"), &model_header(), &frame);
@@ -51,7 +56,24 @@ fn laid() -> Vec<Case> {
     frames().map(case).collect()
 }
 
-/// A good frame and a refused one into headers that are refused, and taking out of them.
+fn safety() -> Vec<Case> {
+    let case = |name| {
+        lay(
+            format!("model header: {name}"),
+            &model_header(),
+            &frame(name),
+        )
+    };
+    [
+        apart(case("area safety"), "6:..", "0:.."),
+        apart(case("identification 6, eight hits"), "6:..", "0:.."),
+        apart(case("identification 5, start/end 01"), "6:..", "7:.."),
+        apart(case("identification 4, start/end 00"), "6:..", "6:.."),
+    ]
+    .concat()
+}
+
+/// A good frame, one of area safety information and a refused one into headers that are refused, and taking out of them.
 fn refused() -> Vec<Case> {
     let headers: [(&str, &[usize], bool, usize); 6] = [
         ("a header of 187 bytes", &[], true, 187),
@@ -64,9 +86,10 @@ fn refused() -> Vec<Case> {
     let mut cases = vec![];
     for (what, places, again, n) in headers {
         let header = &flipped(places, again)[..n];
-        for name in ["all areas", "no pattern"] {
-            cases.push(lay(format!("{what}, {name}"), header, &frame(name)));
-        }
+        let case = |name: &str| lay(format!("{what}, {name}"), header, &frame(name));
+        cases.extend(by_both(
+            &["all areas", "no pattern", "area safety"].map(case),
+        ));
         cases.push(Case::new("take_out", what).lent(header));
     }
     cases
@@ -77,19 +100,20 @@ pub(crate) fn headers() -> [(&'static str, Bytes); 2] {
     [("model", model_header()), ("filled", written(&filled()))]
 }
 
-/// Frames laid into a header in turn, and the header after that.
-pub(crate) fn in_turn(name: &str, mut header: Bytes) -> (Vec<Case>, Bytes) {
+/// Frames laid into a header in turn by the edition with this number, and the header after that.
+pub(crate) fn in_turn(edition: u64, name: &str, mut header: Bytes) -> (Vec<Case>, Bytes) {
     let mut cases = vec![];
     for (frame_name, again) in [
         ("place", ""),
         ("place", " again"),
         ("nine hits", ""),
+        ("area safety", ""),
         ("pattern 1", ""),
     ] {
         let frame = frame(frame_name);
         let what = format!("{name} header in turn: {frame_name}{again}");
-        cases.push(lay(what, &header, &frame));
-        lay_in(&mut header, &frame);
+        cases.push(lay(what, &header, &frame).edition(edition));
+        lay_in(edition_of(edition), &mut header, &frame);
     }
     (cases, header)
 }
@@ -97,7 +121,8 @@ pub(crate) fn in_turn(name: &str, mut header: Bytes) -> (Vec<Case>, Bytes) {
 fn turns() -> Vec<Case> {
     let mut cases = vec![];
     for (name, header) in headers() {
-        let (laid, mut header) = in_turn(name, header);
+        cases.extend(in_turn(AREA_SAFETY, name, header).0);
+        let (laid, mut header) = in_turn(FIRST, name, header);
         cases.extend(laid);
         for what in ["taken out", "taken out twice"] {
             cases.push(Case::new("take_out", format!("{name} header, {what}")).lent(&header));

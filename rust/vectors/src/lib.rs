@@ -1,5 +1,5 @@
 //! The cases that the test programs are run on, and what they have to answer, made by the plain version: a table of operations and the cases of each family.
-//! `crates/test_cases` says how a case and an answer are written.
+//! `crates/test_cases` says how a case and an answer are written. The third number of a case names the edition, where its operation takes one.
 mod codes;
 mod frames;
 mod headers;
@@ -8,8 +8,9 @@ mod places;
 mod reading;
 mod receiver;
 
-pub use reading::lines as readings;
+pub use reading::{Rows, ROWS};
 
+use reference::frame::Edition;
 use std::fmt::Write;
 
 /// A program that runs cases: its crate, its operations by their numbers, and its cases.
@@ -76,11 +77,33 @@ struct Call {
     told: Vec<u64>,
 }
 
+/// The numbers of the editions, and some that no edition has.
+const FIRST: u64 = 0;
+const AREA_SAFETY: u64 = 1;
+const NEITHER: [u64; 4] = [2, 257, 65537, 0xFFFF_FFFF];
+
+/// The edition with a number: one that no edition has is taken for the first.
+fn edition_of(number: u64) -> Edition {
+    match number {
+        AREA_SAFETY => Edition::AreaSafety,
+        _ => Edition::First,
+    }
+}
+
+impl Call {
+    /// The edition that the third number names.
+    fn edition(&self) -> Edition {
+        edition_of(self.numbers[2])
+    }
+}
+
 #[derive(Clone)]
 struct Case {
     /// Why it and those beside it are there.
     why: &'static str,
     operation: &'static str,
+    /// The edition in words, if it is not the first.
+    edition: String,
     what: String,
     numbers: [u64; 3],
     input: Vec<u8>,
@@ -94,12 +117,24 @@ impl Case {
         Case {
             why: "",
             operation,
+            edition: String::new(),
             what: what.into(),
             numbers: [0; 3],
             input: vec![],
             lent: vec![],
             known: None,
         }
+    }
+
+    /// The edition by its number, which is the third number.
+    fn edition(mut self, number: u64) -> Case {
+        self.numbers[2] = number;
+        self.edition = match number {
+            FIRST => String::new(),
+            AREA_SAFETY => ", area safety".to_owned(),
+            _ => format!(", edition {number}"),
+        };
+        self
     }
 
     /// The numbers from the first on.
@@ -182,8 +217,9 @@ impl Case {
     fn text(&self) -> String {
         let known = self.known.map(|(from, end)| format!(" [{from}: {end}]"));
         format!(
-            "{}: {}{}",
+            "{}{}: {}{}",
             self.operation,
+            self.edition,
             self.what,
             known.unwrap_or_default()
         )
@@ -230,6 +266,29 @@ fn because(why: &'static str, cases: Vec<Case>) -> Vec<Case> {
     cases.into_iter().map(case).collect()
 }
 
+/// Cases of an edition.
+fn by(edition: u64, cases: &[Case]) -> Vec<Case> {
+    let case = |case: &Case| case.clone().edition(edition);
+    cases.iter().map(case).collect()
+}
+
+/// Each case by both editions. What is known of its answer is known of both.
+fn by_both(cases: &[Case]) -> Vec<Case> {
+    [by(FIRST, cases), by(AREA_SAFETY, cases)].concat()
+}
+
+/// A case whose answers are known by document 02, a): that of the first edition, also by numbers that no edition has, and that of area safety.
+fn apart(case: Case, first: &'static str, safety: &'static str) -> Vec<Case> {
+    let known = |number, answer| {
+        case.clone()
+            .edition(number)
+            .known("document 02, a)", answer)
+    };
+    let mut cases = vec![known(FIRST, first), known(AREA_SAFETY, safety)];
+    cases.extend(NEITHER.map(|number| known(number, first)));
+    cases
+}
+
 /// Cases that make the same call are one, which is what each of them is.
 fn merged(cases: Vec<Case>) -> Vec<Case> {
     let mut merged: Vec<Case> = vec![];
@@ -247,9 +306,15 @@ fn merged(cases: Vec<Case>) -> Vec<Case> {
     merged
 }
 
+/// What stands above the list.
+const HEAD: &str = "Where an operation takes an edition, it is named beside the operation if it is not the first. A case names it by its third number: 0 the first,
+1 area safety, and any other is taken for the first.
+";
+
 /// The list of all cases.
 pub fn list() -> String {
-    PROGRAMS.map(|program| program.files().list).join("\n")
+    let lists = PROGRAMS.map(|program| program.files().list);
+    format!("{HEAD}\n{}", lists.join("\n"))
 }
 
 /// The refusal's number, and what else is told.

@@ -1,17 +1,21 @@
 //! Writes what the test programs are run on and have to answer, `crates/NAME/stdin` and `stdout`, the list of their cases, `cases.txt`, and the output of the
-//! program that reads frames.
+//! programs that read and list frames; the two of the area safety edition are run on the inputs of two of the first.
 use std::path::Path;
 
 fn main() -> std::io::Result<()> {
     let here = Path::new(env!("CARGO_MANIFEST_DIR"));
+    let crates = here.join("../../crates");
     for program in vectors::PROGRAMS {
-        let folder = here.join("../../crates").join(program.name);
+        let folder = crates.join(program.name);
         let files = program.files();
         std::fs::write(folder.join("stdin"), files.stdin)?;
         std::fs::write(folder.join("stdout"), files.stdout)?;
     }
-    let reader = here.join("../../crates/read_frames");
-    let frames = std::fs::read(reader.join("stdin"))?;
-    std::fs::write(reader.join("stdout"), vectors::readings(&frames))?;
+    for program in vectors::ROWS {
+        let folder = crates.join(program.name);
+        let input = std::fs::read(crates.join(program.input).join("stdin"))?;
+        std::fs::write(folder.join("stdout"), program.stdout(&input))?;
+        std::fs::write(folder.join("stdin"), input)?;
+    }
     std::fs::write(here.join("cases.txt"), vectors::list())
 }

@@ -1,7 +1,7 @@
 //! Reports and places.
 use crate::frames::{lending, record, record_of};
-use crate::{because, numbers, rows, status, Call, Case, Operation};
-use reference::frame::{Record, DEPTH, IDENTIFICATION, SOUTH};
+use crate::{apart, because, by_both, numbers, rows, status, Call, Case, Operation};
+use reference::frame::{Edition, Record, DEPTH, IDENTIFICATION, SOUTH};
 use reference::place::{self, Place, Report};
 
 pub(crate) const OPERATIONS: [Operation; 5] = [
@@ -45,7 +45,7 @@ fn reported(call: &mut Call) -> u64 {
     let [before, lent, _] = call.numbers;
     let mut place = [f64::from_bits(before); 4];
     let (status, doubles) = match record_of(&call.fields) {
-        Some(record) if lent == 3 => report_status(&record),
+        Some(record) if lent == 3 => report_status(call.edition(), &record),
         _ => (status(1, 0), vec![]),
     };
     place[..doubles.len()].copy_from_slice(&doubles);
@@ -53,12 +53,13 @@ fn reported(call: &mut Call) -> u64 {
     status
 }
 
-fn report_status(record: &Record) -> (u64, Vec<f64>) {
-    match place::report(record) {
+fn report_status(edition: Edition, record: &Record) -> (u64, Vec<f64>) {
+    match place::report(edition, record) {
         Ok(Report::Place(p)) => (status(0, 1), vec![p.latitude, p.longitude, p.depth]),
         Ok(Report::Cancellation) => (status(0, 2), vec![]),
         Ok(Report::AreasOnly) => (status(0, 3), vec![]),
         Ok(Report::Nothing) => (status(0, 0), vec![]),
+        Ok(Report::AreaSafety) => (status(0, 4), vec![]),
         Err(number) => (status(number, 0), vec![]),
     }
 }
@@ -87,7 +88,11 @@ pub(crate) fn cases() -> Vec<Case> {
     [
         because(
             "each case of a report, the limits, and each refusal of a record",
-            reports(),
+            by_both(&reports()),
+        ),
+        because(
+            "area safety information: a report of its own, its limits, and that any other number is the first edition",
+            safety_reports(),
         ),
         because(
             "doubles about every limit, zeros, infinities and NaNs in each of the desk's three; images of numbers",
@@ -125,7 +130,7 @@ fn place_page(text: &str) -> Record {
     let [identification, place @ ..] = &numbers(text)[..] else {
         panic!("no place");
     };
-    let mut record = record("0 0 0 3 5 1 0 1 0 300 0 0 0 0 0 0 900 0");
+    let mut record = record("0 0 0 3 5 1 0 1 0 300 0 0 0 0 0 0 900 0*2");
     record[IDENTIFICATION] = *identification;
     record[SOUTH..=DEPTH].copy_from_slice(place);
     record
@@ -133,32 +138,55 @@ fn place_page(text: &str) -> Record {
 
 /// Other records.
 const RECORDS: &str = "
-identification 7 with an update | 0 0 7 1 0*14
-a cancellation with a latitude | 0 0 0 1 0 1 0*4 1 0 901 0*5
-page 2 | 0 0 0 1 0 2 0*12
-all areas | 1 1 0 3 5 0*13
-one area | 0 0 1 3 5 0 0xfffeffffffffff 0*11
-a cancellation | 0 0 3 2 5 1 0 1 1 300 1 0*7
-no information | 0 0 7 0*14 2047
+identification 7 with an update | 0 0 7 1 0*15
+a cancellation with a latitude | 0 0 0 1 0 1 0*4 1 0 901 0*6
+page 2 | 0 0 0 1 0 2 0*13
+all areas | 1 1 0 3 5 0*14
+one area | 0 0 1 3 5 0 0xfffeffffffffff 0*12
+a cancellation | 0 0 3 2 5 1 0 1 1 300 1 0*8
+no information | 0 0 7 0*14 2047 0
 ";
 
-fn reports() -> Vec<Case> {
-    let lent = |what: &str, fields: &[u64], before: f64, n| {
-        let numbers = [before.to_bits(), n];
-        Case::new("report", what).fields(fields).numbers(&numbers)
+/// Records, and the last digits of the report in the first edition and in that of area safety: those of a status follow the four doubles, which stay.
+const SAFETY_RECORDS: &str = "
+area safety | 0 0 5 2 1234567890 0*13 0x123456789abcdef | .. 6 | .. 400
+area safety test | 1 1 6 1 5 0*13 1 | .. 6 | .. 400
+identification 5, all else zero | 0*2 5 0*16 | .. 6 | .. 400
+identification 5, region 2^57 - 1 | 0*2 5 0*15 0x1ffffffffffffff | .. 6 | .. 400
+identification 5, region 2^57 | 0*2 5 0*15 0x200000000000000 | .. 6 | .. a
+identification 5 with page 1 | 0*2 5 0*2 1 0*13 | .. 6 | .. a
+identification 6 with kind 1 | 0*2 6 0*7 1 0*8 | .. 6 | .. a
+identification 0 with region 1 | 0*18 1 | .. a | .. a
+identification 7 with region 1 | 0*2 7 0*15 1 | .. a | .. a
+identification 4 | 0*2 4 0*16 | .. 6 | .. 6
+";
+
+/// So many doubles that hold a number are lent.
+fn report(what: &str, fields: &[u64], before: f64, n: u64) -> Case {
+    let numbers = [before.to_bits(), n];
+    Case::new("report", what).fields(fields).numbers(&numbers)
+}
+
+fn safety_reports() -> Vec<Case> {
+    let each = |[what, fields, first, safety]: [&'static str; 4]| {
+        apart(report(what, &record(fields), 12.5, 3), first, safety)
     };
-    let case = |what: &str, fields: &[u64]| lent(what, fields, 12.5, 3);
+    rows(SAFETY_RECORDS).flat_map(each).collect()
+}
+
+fn reports() -> Vec<Case> {
+    let case = |what: &str, fields: &[u64]| report(what, fields, 12.5, 3);
     let pages = rows(PLACES).map(|[what, page]| case(what, &place_page(page)));
     let others = rows(RECORDS).map(|[what, fields]| case(what, &record(fields)));
     let mut cases: Vec<Case> = pages.chain(others).collect();
     let place = place_page("0 0 356 0 1397 40");
     for n in [0, 2, 4] {
-        cases.push(lent(&format!("a place of {n} doubles"), &place, 12.5, n));
+        cases.push(report(&format!("a place of {n} doubles"), &place, 12.5, n));
     }
-    cases.push(case("a record of 17 numbers", &place[..17]));
-    cases.push(lent(
+    cases.push(case("a record of 18 numbers", &place[..18]));
+    cases.push(report(
         "all areas: a lent NaN stays one",
-        &[0; 18],
+        &[0; 19],
         f64::NAN,
         3,
     ));

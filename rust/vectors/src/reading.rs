@@ -1,9 +1,52 @@
-//! What reading frames answers, a line each.
-use reference::frame::read;
+//! The programs that take a row of frames: what reading them and listing them answers, a line each, and the files of those programs.
+use reference::frame::{read, Edition};
+use reference::listing::listing;
 
-/// The line of frame n.
-pub fn reading(n: usize, frame: &[u8]) -> String {
-    match read(frame) {
+/// A program over a row of frames, the one whose input it is run on, and the lines that it has to write.
+pub struct Rows {
+    pub name: &'static str,
+    /// Itself where its input is not made here.
+    pub input: &'static str,
+    lines: fn(&[u8]) -> String,
+}
+
+pub const ROWS: [Rows; 5] = [
+    Rows {
+        name: "read_frames",
+        input: "read_frames",
+        lines: |input| readings(Edition::First, input),
+    },
+    Rows {
+        name: "read_frames_safety",
+        input: "read_frames",
+        lines: |input| readings(Edition::AreaSafety, input),
+    },
+    Rows {
+        name: "list_frames",
+        input: "list_frames",
+        lines: |input| listed(Edition::First, input),
+    },
+    Rows {
+        name: "test_list_samples",
+        input: "test_list_samples",
+        lines: |input| listed(Edition::First, input),
+    },
+    Rows {
+        name: "list_frames_safety",
+        input: "test_list_samples",
+        lines: |input| listed(Edition::AreaSafety, input),
+    },
+];
+
+impl Rows {
+    pub fn stdout(&self, input: &[u8]) -> String {
+        (self.lines)(input)
+    }
+}
+
+/// What reading frame n answers.
+fn reading(edition: Edition, n: usize, frame: &[u8]) -> String {
+    match read(edition, frame) {
         Ok((record, damage)) => {
             let fields = record.map(|value| value.to_string()).join(" ");
             format!(
@@ -16,7 +59,13 @@ pub fn reading(n: usize, frame: &[u8]) -> String {
 }
 
 /// The lines of a row of frames; a short last piece is a frame.
-pub fn lines(input: &[u8]) -> String {
+fn readings(edition: Edition, input: &[u8]) -> String {
     let frames = input.chunks(26).take(999_999).enumerate();
-    frames.map(|(i, frame)| reading(i + 1, frame)).collect()
+    frames
+        .map(|(i, frame)| reading(edition, i + 1, frame))
+        .collect()
+}
+
+fn listed(edition: Edition, input: &[u8]) -> String {
+    String::from_utf8(listing(edition, input)).expect("text")
 }

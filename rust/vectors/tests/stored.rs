@@ -1,4 +1,4 @@
-//! What is stored of the test programs, and the output of the program that reads frames, is what the plain version makes now.
+//! What is stored of the test programs, and of the programs that read and list frames, is what the plain version makes now.
 use std::path::{Path, PathBuf};
 
 fn here() -> PathBuf {
@@ -30,8 +30,13 @@ fn list_of_cases() {
 }
 
 #[test]
-fn frames_read() {
-    let folder = here().join("../../crates/read_frames");
-    let input = std::fs::read(folder.join("stdin")).expect("frames");
-    compared(&folder.join("stdout"), &vectors::readings(&input));
+fn rows_of_frames() {
+    let crates = here().join("../../crates");
+    for program in vectors::ROWS {
+        let folder = crates.join(program.name);
+        let input = std::fs::read(crates.join(program.input).join("stdin")).expect("frames");
+        let stdin = std::fs::read(folder.join("stdin")).expect("its input");
+        assert!(stdin == input, "{}: another input", program.name);
+        compared(&folder.join("stdout"), &program.stdout(&input));
+    }
 }
