@@ -1,6 +1,7 @@
 //! The exported functions as the archive has them, over numbers and slices. Each but [`capture_source`], [`capture_numbers`] and [`crc32`], which
 //! refuse nothing, returns a status: the refusal's number in the low 8 bits, 0 where nothing was refused, and above them what else it tells.
-//! A refusal leaves every buffer as it was, and a buffer of another length than the one named is refusal 1. The other modules say the same with types.
+//! A refusal leaves every buffer as it was, and a buffer of another length than the one named is refusal 1. The edition is a number: 0 the first, 1 area
+//! safety, and any other is taken for the first. The other modules say the same with types.
 
 mod archive {
     extern "C" {
@@ -17,12 +18,14 @@ mod archive {
             word_len: usize,
         ) -> u32;
         pub fn gvz_frame_read(
+            edition: u32,
             frame: *const u8,
             frame_len: usize,
             record: *mut u64,
             record_len: usize,
         ) -> u32;
         pub fn gvz_frame_write(
+            edition: u32,
             record: *const u64,
             record_len: usize,
             frame: *mut u8,
@@ -30,6 +33,7 @@ mod archive {
         ) -> u32;
         pub fn gvz_warned(record: *const u64, record_len: usize, area: u64) -> u32;
         pub fn gvz_report(
+            edition: u32,
             record: *const u64,
             record_len: usize,
             place: *mut f64,
@@ -42,8 +46,9 @@ mod archive {
             fields: *mut u64,
             fields_len: usize,
         ) -> u32;
-        pub fn gvz_follow(state: u32, frame: *const u8, frame_len: usize) -> u32;
+        pub fn gvz_follow(edition: u32, state: u32, frame: *const u8, frame_len: usize) -> u32;
         pub fn gvz_capture_source(
+            edition: u32,
             main: *const u8,
             main_len: usize,
             spare: *const u8,
@@ -51,6 +56,7 @@ mod archive {
             n: u64,
         ) -> u32;
         pub fn gvz_capture_numbers(
+            edition: u32,
             main: *const u8,
             main_len: usize,
             spare: *const u8,
@@ -70,6 +76,7 @@ mod archive {
             header_len: usize,
         ) -> u32;
         pub fn gvz_lay_in(
+            edition: u32,
             header: *mut u8,
             header_len: usize,
             frame: *const u8,
@@ -94,10 +101,11 @@ pub fn repair_register(frame: &[u8], word: &mut [u8]) -> u32 {
     }
 }
 
-/// The number, 256 times the repaired places and 65536 times the bits of B1 to B16 that differed; `record` has 18 values.
-pub fn frame_read(frame: &[u8], record: &mut [u64]) -> u32 {
+/// The number, 256 times the repaired places and 65536 times the bits of B1 to B16 that differed; `record` has 19 values.
+pub fn frame_read(edition: u32, frame: &[u8], record: &mut [u64]) -> u32 {
     unsafe {
         archive::gvz_frame_read(
+            edition,
             frame.as_ptr(),
             frame.len(),
             record.as_mut_ptr(),
@@ -106,10 +114,11 @@ pub fn frame_read(frame: &[u8], record: &mut [u64]) -> u32 {
     }
 }
 
-/// The number; `record` has 18 values and `frame` 26 bytes.
-pub fn frame_write(record: &[u64], frame: &mut [u8]) -> u32 {
+/// The number; `record` has 19 values and `frame` 26 bytes.
+pub fn frame_write(edition: u32, record: &[u64], frame: &mut [u8]) -> u32 {
     unsafe {
         archive::gvz_frame_write(
+            edition,
             record.as_ptr(),
             record.len(),
             frame.as_mut_ptr(),
@@ -118,15 +127,16 @@ pub fn frame_write(record: &[u64], frame: &mut [u8]) -> u32 {
     }
 }
 
-/// The number and 256 times 1 for a warned area; `record` has 18 values.
+/// The number and 256 times 1 for a warned area; `record` has 19 values.
 pub fn warned(record: &[u64], area: u64) -> u32 {
     unsafe { archive::gvz_warned(record.as_ptr(), record.len(), area) }
 }
 
-/// The number and 256 times the case; `record` has 18 values and `place`, which is written for a place alone, 3.
-pub fn report(record: &[u64], place: &mut [f64]) -> u32 {
+/// The number and 256 times the case; `record` has 19 values and `place`, which is written for a place alone, 3.
+pub fn report(edition: u32, record: &[u64], place: &mut [f64]) -> u32 {
     unsafe {
         archive::gvz_report(
+            edition,
             record.as_ptr(),
             record.len(),
             place.as_mut_ptr(),
@@ -149,21 +159,35 @@ pub fn desk(latitude: f64, longitude: f64, depth: f64, fields: &mut [u64]) -> u3
 }
 
 /// The number, 256 times the event and 65536 times the new state.
-pub fn follow(state: u32, frame: &[u8]) -> u32 {
-    unsafe { archive::gvz_follow(state, frame.as_ptr(), frame.len()) }
+pub fn follow(edition: u32, state: u32, frame: &[u8]) -> u32 {
+    unsafe { archive::gvz_follow(edition, state, frame.as_ptr(), frame.len()) }
 }
 
 /// 0 for neither, 1 for main, 2 for spare.
-pub fn capture_source(main: &[u8], spare: &[u8], n: u64) -> u32 {
+pub fn capture_source(edition: u32, main: &[u8], spare: &[u8], n: u64) -> u32 {
     unsafe {
-        archive::gvz_capture_source(main.as_ptr(), main.len(), spare.as_ptr(), spare.len(), n)
+        archive::gvz_capture_source(
+            edition,
+            main.as_ptr(),
+            main.len(),
+            spare.as_ptr(),
+            spare.len(),
+            n,
+        )
     }
 }
 
 /// Main's number and 256 times spare's.
-pub fn capture_numbers(main: &[u8], spare: &[u8], n: u64) -> u32 {
+pub fn capture_numbers(edition: u32, main: &[u8], spare: &[u8], n: u64) -> u32 {
     unsafe {
-        archive::gvz_capture_numbers(main.as_ptr(), main.len(), spare.as_ptr(), spare.len(), n)
+        archive::gvz_capture_numbers(
+            edition,
+            main.as_ptr(),
+            main.len(),
+            spare.as_ptr(),
+            spare.len(),
+            n,
+        )
     }
 }
 
@@ -192,9 +216,10 @@ pub fn header_write(record: &[u64], header: &mut [u8]) -> u32 {
 }
 
 /// The number; `header` is changed in place.
-pub fn lay_in(header: &mut [u8], frame: &[u8]) -> u32 {
+pub fn lay_in(edition: u32, header: &mut [u8], frame: &[u8]) -> u32 {
     unsafe {
         archive::gvz_lay_in(
+            edition,
             header.as_mut_ptr(),
             header.len(),
             frame.as_ptr(),

@@ -1,5 +1,5 @@
 //! The update number followed.
-use crate::{calls, Refusal};
+use crate::{calls, Edition, Refusal};
 
 /// An update number, 0 to 3.
 #[derive(Clone, Copy, Debug, PartialEq, Eq, Hash)]
@@ -27,6 +27,10 @@ pub enum State {
     Real(Update),
     /// A test with this update number, identification 2 or 3.
     Test(Update),
+    /// Area safety information with this update number, identification 5.
+    Safety(Update),
+    /// A test of area safety information with this update number, identification 6.
+    SafetyTest(Update),
 }
 
 /// What a frame means after those before it.
@@ -34,9 +38,9 @@ pub enum State {
 pub enum Event {
     /// No information, as before.
     Quiet,
-    /// No information, after a warning or a test.
+    /// No information, after anything else.
     Ended,
-    /// A warning or a test from quiet, or after one of the other kind.
+    /// Anything else from quiet, or after another kind: of the four kinds each other one.
     Begins,
     /// The update number that was held.
     Same,
@@ -49,12 +53,14 @@ pub enum Event {
 }
 
 impl State {
-    /// The state's number: 0 quiet, 4 and the update number real, 8 and the update number test.
+    /// The state's number: 0 quiet; the update number and 4 real, 8 test, 12 safety, 16 safety test.
     pub fn number(self) -> u32 {
         match self {
             State::Quiet => 0,
             State::Real(update) => 4 + u32::from(update.0),
             State::Test(update) => 8 + u32::from(update.0),
+            State::Safety(update) => 12 + u32::from(update.0),
+            State::SafetyTest(update) => 16 + u32::from(update.0),
         }
     }
 
@@ -65,22 +71,24 @@ impl State {
     ///
     /// let state = State::Real(Update::new(3).unwrap());
     /// assert_eq!(State::from_number(state.number()), state);
-    /// assert_eq!(State::from_number(12), State::Quiet);
+    /// assert_eq!(State::from_number(20), State::Quiet);
     /// ```
     pub fn from_number(number: u32) -> State {
         match number {
             4..=7 => State::Real(Update(number as u8 - 4)),
             8..=11 => State::Test(Update(number as u8 - 8)),
+            12..=15 => State::Safety(Update(number as u8 - 12)),
+            16..=19 => State::SafetyTest(Update(number as u8 - 16)),
             _ => State::Quiet,
         }
     }
 
-    /// The next state and the event.
+    /// The next state and the event, of a frame that is judged by the edition named. Any state may be met in any edition.
     ///
     /// ```
     /// use gvozdyana::follower::{Event, State, Update};
     /// use gvozdyana::frame::{write, Identification, Record, Warning};
-    /// use gvozdyana::Refusal;
+    /// use gvozdyana::{Edition, Refusal};
     ///
     /// let with_update = |number| {
     ///     let warning = Warning {
@@ -88,17 +96,19 @@ impl State {
     ///         update: Update::new(number).unwrap(),
     ///         time: 1000,
     ///     };
-    ///     write(&Record::for_areas(warning, [15]).unwrap())
+    ///     write(Edition::First, &Record::for_areas(warning, [15]).unwrap())
     /// };
-    /// let (state, event) = State::Quiet.follow(&with_update(3)?);
+    /// let follow = |state: State, frame: &[u8]| state.follow(Edition::First, frame);
+    /// let (state, event) = follow(State::Quiet, &with_update(3)?);
     /// assert_eq!(event, Event::Begins);
-    /// assert_eq!(state.follow(&with_update(0)?).1, Event::Changed);
-    /// assert_eq!(state.follow(&write(&Record::no_information(5))?), (State::Quiet, Event::Ended));
-    /// assert_eq!(state.follow(&[]), (state, Event::Refused(Refusal::WrongLength)));
+    /// assert_eq!(follow(state, &with_update(0)?).1, Event::Changed);
+    /// let nothing = write(Edition::First, &Record::no_information(5))?;
+    /// assert_eq!(follow(state, &nothing), (State::Quiet, Event::Ended));
+    /// assert_eq!(follow(state, &[]), (state, Event::Refused(Refusal::WrongLength)));
     /// # Ok::<(), Refusal>(())
     /// ```
-    pub fn follow(self, frame: &[u8]) -> (State, Event) {
-        let status = calls::follow(self.number(), frame);
+    pub fn follow(self, edition: Edition, frame: &[u8]) -> (State, Event) {
+        let status = calls::follow(edition.number(), self.number(), frame);
         let event = match (Refusal::from_status(status), status >> 8 & 255) {
             (Some(refusal), _) => Event::Refused(refusal),
             (None, 0) => Event::Quiet,

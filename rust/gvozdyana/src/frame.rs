@@ -1,9 +1,9 @@
 //! The warning frame, read and written, and records made of what is meant.
 use crate::follower::Update;
-use crate::{calls, place, told, Refusal, FRAME_BYTES};
+use crate::{calls, place, told, Edition, Refusal, FRAME_BYTES};
 
 /// The values of a frame's record.
-pub const FRAME_VALUES: usize = 18;
+pub const FRAME_VALUES: usize = 19;
 
 /// Areas are numbered from 0 to 55, in the order of the notice's schedule 2; 15 is Tokyo.
 pub const AREAS: u64 = 56;
@@ -13,8 +13,8 @@ macro_rules! record {
     ($($name:ident, $words:literal;)*) => {
         /// What a frame says, and how many bits each field has. A field that identification, page and kind do not leave free is 0, so that a record
         /// of zeros is a warning for ALL areas. There is no default: make a record by [`Record::no_information`], [`Record::for_areas`],
-        /// [`Record::at_place`] or [`Record::cancellation`], and change fields then. Each may hold too much for its place, and the writer then
-        /// refuses it.
+        /// [`Record::at_place`], [`Record::cancellation`] or [`Record::area_safety`], and change fields then. Each may hold too much for its place,
+        /// and the writer then refuses it.
         ///
         /// ```compile_fail
         /// gvozdyana::frame::Record::default();
@@ -41,10 +41,10 @@ macro_rules! record {
 record! {
     reference, "1 bit: B0, the differential reference, carried as it stands.";
     pattern, "1 bit: 0 for the pattern 0011010111101110 in B1 to B16, 1 for its complement. Received bits may differ from it in up to three places.";
-    identification, "3 bits: 0 to 3 are the numbers of an [`Identification`], 7 is no information. 4, 5 and 6 are undefined, and refused.";
-    update, "2 bits, of identification 0 to 3 alone, as `time` and `page`; 0 for 7, although its frame holds ones there. It goes 0, 1, 2, 3 and back to 0, so that the greater one is not the newer one ([`State::follow`](crate::follower::State::follow)).";
+    identification, "3 bits: 0 to 3 are the numbers of an [`Identification`], 5 and 6 of a [`SafetyIdentification`], 7 is no information. 4 is undefined, and refused; so are 5 and 6 in the first edition.";
+    update, "2 bits, as `time` of identification 0 to 3, 5 and 6; 0 for 7, although its frame holds ones there. It goes 0, 1, 2, 3 and back to 0, so that the greater one is not the newer one ([`State::follow`](crate::follower::State::follow)).";
     time, "31 bits: the current time, a plain number that is carried as it stands.";
-    page, "1 bit: 0 for areas, 1 for a place or a cancellation.";
+    page, "1 bit: 0 for areas, 1 for a place or a cancellation; identification 0 to 3 alone.";
     areas, "56 bits: area 0 highest, and 0 MEANS WARNED. It means something only on page 0 of identification 0 to 3; elsewhere it is 0 and nobody is \
         warned. Ask [`Record::warned`], which looks at all of that.";
     total, "1 bit, as all from here to `occurred` of page 1 alone: how many places are being sent, 0 for one and 1 for two.";
@@ -58,6 +58,7 @@ record! {
     depth, "10 bits: kilometres.";
     occurred, "10 bits: the time of occurrence, a plain number that is carried as it stands.";
     broadcaster, "11 bits: the broadcaster number, of identification 7 alone.";
+    region, "57 bits, B55 highest: the target region of identification 5 and 6 alone, carried as it stands.";
 }
 
 /// The identifications of warnings and tests; the number of each is its place here, from 0.
@@ -80,11 +81,38 @@ impl Identification {
     }
 }
 
+/// The identifications of area safety information, which only the area safety edition has.
+#[derive(Clone, Copy, Debug, PartialEq, Eq, Hash)]
+pub enum SafetyIdentification {
+    /// 5: area safety information.
+    AreaSafety = 5,
+    /// 6: a test of it.
+    AreaSafetyTest = 6,
+}
+
+impl SafetyIdentification {
+    /// The number that a record holds.
+    pub fn number(self) -> u64 {
+        self as u64
+    }
+}
+
 /// What every warning and every test carries.
 #[derive(Clone, Copy, Debug, PartialEq, Eq, Hash)]
 pub struct Warning {
     /// Which of the four it is.
     pub identification: Identification,
+    /// The update number.
+    pub update: Update,
+    /// 31 bits: the current time, a plain number.
+    pub time: u64,
+}
+
+/// What area safety information and its test carry beside the region.
+#[derive(Clone, Copy, Debug, PartialEq, Eq, Hash)]
+pub struct Safety {
+    /// Which of the two it is.
+    pub identification: SafetyIdentification,
     /// The update number.
     pub update: Update,
     /// 31 bits: the current time, a plain number.
@@ -97,10 +125,12 @@ impl Record {
     ///
     /// ```
     /// use gvozdyana::frame::{read, write, Record};
+    /// use gvozdyana::Edition;
     ///
     /// let record = Record::no_information(5);
     /// assert_eq!(record.warned_areas().count(), 0);
-    /// assert_eq!(read(&write(&record)?)?.record, record);
+    /// let frame = write(Edition::First, &record)?;
+    /// assert_eq!(read(Edition::First, &frame)?.record, record);
     /// # Ok::<(), gvozdyana::Refusal>(())
     /// ```
     pub fn no_information(broadcaster: u64) -> Record {
@@ -147,6 +177,7 @@ impl Record {
     /// use gvozdyana::follower::Update;
     /// use gvozdyana::frame::{Identification, Record, Warning};
     /// use gvozdyana::place::{fields, report, Place, Report};
+    /// use gvozdyana::Edition;
     ///
     /// let warning = Warning {
     ///     identification: Identification::WarningWithArea,
@@ -155,7 +186,7 @@ impl Record {
     /// };
     /// let place = Place { latitude: 35.6, longitude: 139.7, depth: 40.0 };
     /// let record = Record::at_place(warning, 7, fields(place)?, 990);
-    /// assert_eq!(report(&record), Ok(Report::Place(place)));
+    /// assert_eq!(report(Edition::First, &record), Ok(Report::Place(place)));
     /// # Ok::<(), gvozdyana::Refusal>(())
     /// ```
     pub fn at_place(warning: Warning, number: u64, place: place::Fields, occurred: u64) -> Record {
@@ -177,19 +208,50 @@ impl Record {
     /// use gvozdyana::follower::Update;
     /// use gvozdyana::frame::{Identification, Record, Warning};
     /// use gvozdyana::place::{report, Report};
+    /// use gvozdyana::Edition;
     ///
     /// let warning = Warning {
     ///     identification: Identification::WarningWithArea,
     ///     update: Update::new(2).unwrap(),
     ///     time: 1000,
     /// };
-    /// assert_eq!(report(&Record::cancellation(warning, 7)), Ok(Report::Cancellation));
+    /// let record = Record::cancellation(warning, 7);
+    /// assert_eq!(report(Edition::First, &record), Ok(Report::Cancellation));
     /// ```
     pub fn cancellation(warning: Warning, number: u64) -> Record {
         Record {
             number,
             kind: 1,
             ..warning.on_page(1)
+        }
+    }
+
+    /// Area safety information, or its test, for this target region, of 57 bits. Only the area safety edition has it: the first refuses it.
+    ///
+    /// ```
+    /// use gvozdyana::follower::Update;
+    /// use gvozdyana::frame::{Record, Safety, SafetyIdentification};
+    /// use gvozdyana::place::{report, Report};
+    /// use gvozdyana::{Edition, Refusal};
+    ///
+    /// let safety = Safety {
+    ///     identification: SafetyIdentification::AreaSafetyTest,
+    ///     update: Update::new(1).unwrap(),
+    ///     time: 1000,
+    /// };
+    /// let record = Record::area_safety(safety, (1 << 57) - 1);
+    /// assert_eq!(report(Edition::AreaSafety, &record), Ok(Report::AreaSafety));
+    /// assert_eq!(report(Edition::First, &record), Err(Refusal::Identification));
+    /// let record = Record::area_safety(safety, 1 << 57);
+    /// assert_eq!(report(Edition::AreaSafety, &record), Err(Refusal::Field));
+    /// ```
+    pub fn area_safety(safety: Safety, region: u64) -> Record {
+        Record {
+            identification: safety.identification.number(),
+            update: safety.update.number().into(),
+            time: safety.time,
+            region,
+            ..Record::from_values([0; FRAME_VALUES])
         }
     }
 }
@@ -211,7 +273,7 @@ impl Record {
     /// Whether an area is warned: on page 0 of identification 0 to 3 its bit is 0. An area above 55 is not.
     pub fn warned(&self, area: u64) -> bool {
         let warned = told(calls::warned(&self.values(), area));
-        warned.expect("the archive refuses no record of 18 values") == 1
+        warned.expect("the archive refuses no record of 19 values") == 1
     }
 
     /// The numbers of the areas that are warned, in their order.
@@ -231,30 +293,31 @@ pub struct Reading {
     pub differing: u8,
 }
 
-/// Reads a frame. Refuses 1 to 9.
+/// Reads a frame, by the edition named. Refuses 1 to 9.
 ///
 /// ```
 /// use gvozdyana::frame::read;
-/// use gvozdyana::Refusal;
+/// use gvozdyana::{Edition, Refusal};
 ///
 /// let mut frame = [0; 26];
-/// assert_eq!(read(&frame), Err(Refusal::NoPattern));
+/// assert_eq!(read(Edition::First, &frame), Err(Refusal::NoPattern));
 /// // Pattern 0 with all else zero is a real warning for all areas.
 /// (frame[0], frame[1]) = (0x1A, 0xF7);
-/// let reading = read(&frame)?;
+/// let reading = read(Edition::First, &frame)?;
 /// assert_eq!((reading.repaired, reading.differing), (0, 0));
 /// assert_eq!(reading.record.warned_areas().count(), 56);
 /// // B1 to B3 received wrongly: the same record. Four bits from both patterns are refused.
 /// frame[0] ^= 0x70;
-/// let damaged = read(&frame)?;
+/// let damaged = read(Edition::First, &frame)?;
 /// assert_eq!((damaged.record, damaged.differing), (reading.record, 3));
 /// frame[0] ^= 0x08;
-/// assert_eq!(read(&frame), Err(Refusal::NoPattern));
+/// assert_eq!(read(Edition::First, &frame), Err(Refusal::NoPattern));
 /// # Ok::<(), Refusal>(())
 /// ```
-pub fn read(frame: &[u8]) -> Result<Reading, Refusal> {
+pub fn read(edition: Edition, frame: &[u8]) -> Result<Reading, Refusal> {
     let mut values = [0; FRAME_VALUES];
-    let [repaired, differing, ..] = told(calls::frame_read(frame, &mut values))?.to_le_bytes();
+    let status = calls::frame_read(edition.number(), frame, &mut values);
+    let [repaired, differing, ..] = told(status)?.to_le_bytes();
     Ok(Reading {
         record: Record::from_values(values),
         repaired,
@@ -262,27 +325,33 @@ pub fn read(frame: &[u8]) -> Result<Reading, Refusal> {
     })
 }
 
-/// Writes a record. Refuses 6, then 10, then 9.
+/// Writes a record, by the edition named. Refuses 6, then 10, then 9.
 ///
 /// ```
 /// use gvozdyana::frame::{read, write, Record};
-/// use gvozdyana::Refusal;
+/// use gvozdyana::{Edition, Refusal};
 ///
 /// let mut record = Record::no_information(2047);
-/// assert_eq!(read(&write(&record)?)?.record, record);
+/// let frame = write(Edition::First, &record)?;
+/// assert_eq!(read(Edition::First, &frame)?.record, record);
 /// record.broadcaster = 2048;
-/// assert_eq!(write(&record), Err(Refusal::Field));
+/// assert_eq!(write(Edition::First, &record), Err(Refusal::Field));
 /// record.identification = 4;
-/// assert_eq!(write(&record), Err(Refusal::Identification));
+/// assert_eq!(write(Edition::First, &record), Err(Refusal::Identification));
 /// # Ok::<(), Refusal>(())
 /// ```
-pub fn write(record: &Record) -> Result<[u8; FRAME_BYTES], Refusal> {
+pub fn write(edition: Edition, record: &Record) -> Result<[u8; FRAME_BYTES], Refusal> {
     let mut frame = [0; FRAME_BYTES];
-    write_into(record, &mut frame)?;
+    write_into(edition, record, &mut frame)?;
     Ok(frame)
 }
 
 /// The same into a buffer of 26 bytes, which a refusal leaves as it was. A buffer of another length is refusal 1.
-pub fn write_into(record: &Record, frame: &mut [u8]) -> Result<(), Refusal> {
-    told(calls::frame_write(&record.values(), frame)).map(|_| ())
+pub fn write_into(edition: Edition, record: &Record, frame: &mut [u8]) -> Result<(), Refusal> {
+    told(calls::frame_write(
+        edition.number(),
+        &record.values(),
+        frame,
+    ))
+    .map(|_| ())
 }

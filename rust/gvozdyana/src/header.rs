@@ -1,5 +1,5 @@
 //! The cable multiplex frame header, read and written, and a frame laid into it and taken out.
-use crate::{calls, told, Refusal, HEADER_BYTES};
+use crate::{calls, told, Edition, Refusal, HEADER_BYTES};
 
 /// The values of a header's record.
 pub const HEADER_VALUES: usize = 145;
@@ -144,24 +144,25 @@ pub fn write_into(header: &Header, bytes: &mut [u8]) -> Result<(), Refusal> {
 }
 
 /// Lays a frame, repaired and with the clean pattern, into a header. Refuses the header as [`read`] does, then the frame as
-/// [`frame::read`](crate::frame::read) does; the header is then as it was.
+/// [`frame::read`](crate::frame::read) does by the edition named; the header is then as it was.
 ///
 /// ```
 /// use gvozdyana::header::{lay_in, take_out, write, Header};
-/// use gvozdyana::{frame, Refusal};
+/// use gvozdyana::{frame, Edition, Refusal};
 ///
 /// let empty = write(&Header::default())?;
 /// let mut header = empty;
-/// lay_in(&mut header, &frame::write(&frame::Record::no_information(5))?)?;
+/// let frame = frame::write(Edition::First, &frame::Record::no_information(5))?;
+/// lay_in(Edition::First, &mut header, &frame)?;
 /// assert_ne!(header, empty);
 /// take_out(&mut header)?;
 /// assert_eq!(header, empty);
-/// assert_eq!(lay_in(&mut header, &[0; 26]), Err(Refusal::NoPattern));
+/// assert_eq!(lay_in(Edition::First, &mut header, &[0; 26]), Err(Refusal::NoPattern));
 /// assert_eq!(header, empty);
 /// # Ok::<(), Refusal>(())
 /// ```
-pub fn lay_in(header: &mut [u8], frame: &[u8]) -> Result<(), Refusal> {
-    told(calls::lay_in(header, frame)).map(|_| ())
+pub fn lay_in(edition: Edition, header: &mut [u8], frame: &[u8]) -> Result<(), Refusal> {
+    told(calls::lay_in(edition.number(), header, frame)).map(|_| ())
 }
 
 /// Writes 204 ones instead of a header's frame. Refuses as [`read`] does; the header is then as it was.

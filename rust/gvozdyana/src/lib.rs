@@ -13,6 +13,7 @@
 pub mod calls;
 pub mod capture;
 mod crc;
+mod edition;
 pub mod follower;
 pub mod frame;
 pub mod header;
@@ -21,6 +22,7 @@ mod refusal;
 mod repair;
 
 pub use crc::crc32;
+pub use edition::Edition;
 pub use refusal::Refusal;
 pub use repair::{repair, repair_by_register, repair_into, Repaired};
 

@@ -1,6 +1,6 @@
 //! The place in degrees and kilometres, and the desk's place as field values.
 use crate::frame::Record;
-use crate::{calls, told, Refusal};
+use crate::{calls, told, Edition, Refusal};
 
 /// A place in degrees and kilometres.
 #[derive(Clone, Copy, Debug, PartialEq)]
@@ -39,15 +39,17 @@ pub enum Report {
     Cancellation,
     /// Of page 0: [`Record::warned_areas`] tells them.
     AreasOnly,
+    /// Of area safety information and its test, which only the area safety edition has.
+    AreaSafety,
 }
 
-/// What a record reports. Refuses 6, then 10, then 9, as the writer does.
+/// What a record reports, by the edition named. Refuses 6, then 10, then 9, as the writer does.
 ///
 /// ```
 /// use gvozdyana::follower::Update;
 /// use gvozdyana::frame::{Identification, Record, Warning};
 /// use gvozdyana::place::{report, Fields, Place, Report};
-/// use gvozdyana::Refusal;
+/// use gvozdyana::{Edition, Refusal};
 ///
 /// let warning = Warning {
 ///     identification: Identification::WarningWithArea,
@@ -57,13 +59,14 @@ pub enum Report {
 /// let fields = Fields { south: 1, latitude: 356, west: 0, longitude: 1397, depth: 40 };
 /// let mut record = Record::at_place(warning, 7, fields, 990);
 /// let place = Place { latitude: -35.6, longitude: 139.7, depth: 40.0 };
-/// assert_eq!(report(&record), Ok(Report::Place(place)));
+/// assert_eq!(report(Edition::First, &record), Ok(Report::Place(place)));
 /// record.longitude = 1801;
-/// assert_eq!(report(&record), Err(Refusal::OverLimit));
+/// assert_eq!(report(Edition::First, &record), Err(Refusal::OverLimit));
 /// ```
-pub fn report(record: &Record) -> Result<Report, Refusal> {
+pub fn report(edition: Edition, record: &Record) -> Result<Report, Refusal> {
     let mut place = [0.0; 3];
-    Ok(match told(calls::report(&record.values(), &mut place))? {
+    let status = calls::report(edition.number(), &record.values(), &mut place);
+    Ok(match told(status)? {
         0 => Report::Nothing,
         1 => {
             let [latitude, longitude, depth] = place;
@@ -75,6 +78,7 @@ pub fn report(record: &Record) -> Result<Report, Refusal> {
         }
         2 => Report::Cancellation,
         3 => Report::AreasOnly,
+        4 => Report::AreaSafety,
         case => unreachable!("the archive knows no report of case {case}"),
     })
 }

@@ -35,8 +35,8 @@ refusals! {
     NoPattern = 3, "four bits or more of B1 to B16 differ from both patterns";
     BeyondRepair = 4, "no code word lies within eight places";
     FrameCrc = 5, "the CRC differs, in the repaired word";
-    Identification = 6, "the identification is 4, 5 or 6, or above 7 in a record";
-    StartEndOrUpdate = 7, "start/end or update is not as the identification asks";
+    Identification = 6, "the edition named does not have the identification: 4, in the first edition 5 and 6 too, and in a record those above 7";
+    StartEndOrUpdate = 7, "start/end or update is not as the identification asks by the edition named";
     FixedBit = 8, "a bit fixed at 1 is 0";
     OverLimit = 9, "page 1, kind 0: latitude is over 900 tenths, or longitude over 1800";
     Field = 10, "a record to be written has a field wider than its place, or not 0 where none is left free";
