@@ -1,5 +1,5 @@
 //! The listing program on a million clean frames, beside the same work called in a loop, and the plain version.
-use gvozdyana::frame;
+use gvozdyana::{frame, Edition};
 use samples::Random;
 use std::fs::File;
 use std::hint::black_box;
@@ -32,7 +32,7 @@ fn run(input: &Path) {
 fn looped(frames: &[u8]) {
     let mut text = Vec::new();
     for (n, piece) in frames.chunks(26).enumerate() {
-        match frame::read(piece) {
+        match frame::read(Edition::First, piece) {
             Ok(reading) => writeln!(text, "{} 0 {}", n + 1, reading.repaired),
             Err(refusal) => writeln!(text, "{} {} -", n + 1, refusal.number()),
         }
@@ -56,7 +56,10 @@ pub fn rows(count: usize, make: impl Fn(&mut Random) -> [u8; 26]) {
         let proved = per_frame(count, || run(&input));
         let looped = per_frame(count, || looped(&frames));
         let plain = per_frame(count, || {
-            black_box(reference::listing::listing(&frames));
+            black_box(reference::listing::listing(
+                reference::frame::Edition::First,
+                &frames,
+            ));
         });
         println!(
             "{:<28} {proved:>12.0} {plain:>12.0} {:>8.2}   (in a loop {looped:.0}, program / loop {:.2})",

@@ -1,12 +1,13 @@
 //! Times the proved version and the plain one on the same inputs, in one run: nanoseconds per call, and how many times as fast the proved
-//! one is. The only argument is the number of frames of each sort; of headers there are a tenth.
+//! one is. Frames are judged by the first edition. The only argument is the number of frames of each sort; of headers there are a tenth.
 mod listing;
 
 use gvozdyana::frame::Record;
 use gvozdyana::header::Header;
-use gvozdyana::{frame, header, place};
+use gvozdyana::{frame, header, place, Edition};
+use plain::frame::Edition as PlainEdition;
 use reference as plain;
-use samples::records::{Body, BODIES};
+use samples::records::{bodies, Body};
 use samples::{doubles, frames, headers, records, sent_and_hit, Random};
 use std::hint::black_box;
 use std::time::Instant;
@@ -50,9 +51,14 @@ fn row<T>(
     );
 }
 
-/// A legal frame of any body, hit in so many places.
+/// A legal record of any body of the first edition.
+fn legal_record(random: &mut Random) -> plain::frame::Record {
+    records::legal_record(random.pick(bodies(PlainEdition::First)), random)
+}
+
+/// The frame of one, hit in so many places.
 fn legal_frame(hits: usize, random: &mut Random) -> [u8; 26] {
-    let mut frame = frames::written(&records::legal_record(random.pick(&BODIES), random));
+    let mut frame = frames::written(&legal_record(random));
     frames::hit(&mut frame, hits, random);
     frame
 }
@@ -86,23 +92,23 @@ fn frame_rows(count: usize) {
             count,
             |random| legal_frame(hits, random),
             |bytes| {
-                black_box(frame::read(bytes)).ok();
+                black_box(frame::read(Edition::First, bytes)).ok();
             },
             |bytes| {
-                black_box(plain::frame::read(bytes)).ok();
+                black_box(plain::frame::read(PlainEdition::First, bytes)).ok();
             },
         );
     }
     row(
         "frame write",
         count,
-        |random| records::legal_record(random.pick(&BODIES), random),
+        legal_record,
         |&record| {
-            black_box(frame::write(&Record::from_values(record))).ok();
+            black_box(frame::write(Edition::First, &Record::from_values(record))).ok();
         },
         |record| {
             let mut buffer = [0; 26];
-            plain::frame::write(record, &mut buffer);
+            plain::frame::write(PlainEdition::First, record, &mut buffer);
             black_box(buffer);
         },
     );
@@ -114,10 +120,10 @@ fn place_rows(count: usize) {
         count,
         |random| records::legal_record(Body::Place, random),
         |&record| {
-            black_box(place::report(&Record::from_values(record))).ok();
+            black_box(place::report(Edition::First, &Record::from_values(record))).ok();
         },
         |record| {
-            black_box(plain::place::report(record)).ok();
+            black_box(plain::place::report(PlainEdition::First, record)).ok();
         },
     );
     row(
@@ -182,12 +188,12 @@ fn header_rows(count: usize) {
             |random| (legal(random), legal_frame(hits, random)),
             |(bytes, frame)| {
                 let mut bytes = bytes.clone();
-                header::lay_in(&mut bytes, frame).ok();
+                header::lay_in(Edition::First, &mut bytes, frame).ok();
                 black_box(bytes);
             },
             |(bytes, frame)| {
                 let mut bytes = bytes.clone();
-                plain::header::lay_in(&mut bytes, frame);
+                plain::header::lay_in(PlainEdition::First, &mut bytes, frame);
                 black_box(bytes);
             },
         );

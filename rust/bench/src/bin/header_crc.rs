@@ -1,5 +1,6 @@
 //! Times the CRC check of a million different headers, in one run: by a table of 256 entries, by eight tables, and by the proved function. Each round
 //! goes through all headers with each version. Then laying in, with the archive at hand. The only argument is the number of headers.
+use reference::frame::Edition;
 use samples::{frames, headers, records, Random};
 use std::collections::HashSet;
 use std::hint::black_box;
@@ -82,7 +83,8 @@ fn check(headers: &[Header], crc: Crc) -> (usize, f64) {
 fn lay_in(headers: &mut [Header], frames: &[[u8; 26]]) -> f64 {
     let start = Instant::now();
     for (header, frame) in headers.iter_mut().zip(frames.iter().cycle()) {
-        gvozdyana::header::lay_in(black_box(header), frame).expect("a legal header and frame");
+        let laid = gvozdyana::header::lay_in(gvozdyana::Edition::First, black_box(header), frame);
+        laid.expect("a legal header and frame");
     }
     start.elapsed().as_nanos() as f64 / headers.len() as f64
 }
@@ -128,7 +130,7 @@ fn main() {
 
     let warnings: Vec<[u8; 26]> = (0..1000)
         .map(|_| {
-            let body = random.pick(&records::BODIES);
+            let body = random.pick(records::bodies(Edition::First));
             frames::written(&records::legal_record(body, &mut random))
         })
         .collect();
