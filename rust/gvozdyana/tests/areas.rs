@@ -1,6 +1,6 @@
 //! Which areas are warned, by the proved version and by the plain one; of frames without damage also by their own bits.
 mod common;
-use common::{for_each_seed, frames, hex, length, Case};
+use common::{for_each_seed, frames, hex, length, Case, EDITIONS};
 use gvozdyana::frame::{read, Record};
 use gvozdyana::{calls, Refusal};
 use reference::frame as plain;
@@ -68,7 +68,7 @@ fn every_identification_and_page() {
 fn one_area_alone() {
     for identification in 0..=3 {
         for area in 0..56 {
-            let mut values = [0; 18];
+            let mut values = [0; 19];
             values[plain::IDENTIFICATION] = identification;
             values[plain::AREAS] = ((1 << 56) - 1) ^ (1 << (55 - area));
             let record = Record::from_values(values);
@@ -82,7 +82,7 @@ fn one_area_alone() {
 fn records_of_other_lengths() {
     for_each_seed(53, frames() / 5, |random, case| {
         let mut values = legal_record(Body::Areas, random).to_vec();
-        values.resize(length(18, random), 0);
+        values.resize(length(19, random), 0);
         for area in [0, 15, 55, 56, u64::MAX] {
             let status = calls::warned(&values, area);
             let expected = match values[..].try_into() {
@@ -104,17 +104,22 @@ fn warned_in(frame: &[u8], area: u64) -> bool {
 fn areas_of_frames_read() {
     let (mut undamaged, mut repaired) = (0, 0);
     for_each_seed(54, frames() / 5, |random, case| {
+        let (edition, plain_edition) = random.pick(&EDITIONS);
         let bytes = match random.below(3) {
             0 => frame(random).bytes,
-            1 => faulty(&[], random).bytes,
+            1 => faulty(plain_edition, &[], random).bytes,
             _ => written(&legal_record(Body::Areas, random)).to_vec(),
         };
-        let Ok(reading) = read(&bytes) else { return };
+        let Ok(reading) = read(edition, &bytes) else {
+            return;
+        };
         let what = || format!("frame {}, {case}", hex(&bytes));
         compared(&reading.record.values(), case);
         let whole = match (reading.repaired, reading.differing) {
             (0, 0) => bytes.clone(),
-            _ => plain::clean(&bytes).expect("accepted").to_vec(),
+            _ => plain::clean(plain_edition, &bytes)
+                .expect("accepted")
+                .to_vec(),
         };
         for area in asked() {
             let expected = warned_in(&whole, area);

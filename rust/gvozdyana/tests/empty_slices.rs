@@ -1,14 +1,18 @@
-//! Every function with empty slices, one after another and all at once: refusal 1, or what document 01 says, and nothing written elsewhere.
-use gvozdyana::calls;
+//! Every function with empty slices, one after another and all at once: refusal 1, or what document 01 says, and nothing written elsewhere; whatever the
+//! edition.
 use gvozdyana::frame::{write, Record};
 use gvozdyana::header::{self, Header};
+use gvozdyana::{calls, Edition};
 
 /// Refusal 1.
 const WRONG_LENGTH: u32 = 1;
 
+/// The editions' numbers, and one that no edition has.
+const EDITIONS: [u32; 3] = [0, 1, u32::MAX];
+
 #[test]
 fn of_frames() {
-    let frame = write(&Record::no_information(5)).expect("legal");
+    let frame = write(Edition::First, &Record::no_information(5)).expect("legal");
     let record = Record::no_information(5).values();
     for repair in [calls::repair, calls::repair_register] {
         let mut word = [7; 26];
@@ -17,50 +21,57 @@ fn of_frames() {
         assert_eq!(repair(&frame, &mut []), WRONG_LENGTH);
         assert_eq!(repair(&[], &mut []), WRONG_LENGTH);
     }
-    let mut left = [7; 18];
-    assert_eq!(calls::frame_read(&[], &mut left), WRONG_LENGTH);
-    assert_eq!(left, [7; 18]);
-    assert_eq!(calls::frame_read(&frame, &mut []), WRONG_LENGTH);
-    assert_eq!(calls::frame_read(&[], &mut []), WRONG_LENGTH);
-    let mut left = [7; 26];
-    assert_eq!(calls::frame_write(&[], &mut left), WRONG_LENGTH);
-    assert_eq!(left, [7; 26]);
-    assert_eq!(calls::frame_write(&record, &mut []), WRONG_LENGTH);
-    assert_eq!(calls::frame_write(&[], &mut []), WRONG_LENGTH);
+    for edition in EDITIONS {
+        let mut left = [7; 19];
+        assert_eq!(calls::frame_read(edition, &[], &mut left), WRONG_LENGTH);
+        assert_eq!(left, [7; 19]);
+        assert_eq!(calls::frame_read(edition, &frame, &mut []), WRONG_LENGTH);
+        assert_eq!(calls::frame_read(edition, &[], &mut []), WRONG_LENGTH);
+        let mut left = [7; 26];
+        assert_eq!(calls::frame_write(edition, &[], &mut left), WRONG_LENGTH);
+        assert_eq!(left, [7; 26]);
+        assert_eq!(calls::frame_write(edition, &record, &mut []), WRONG_LENGTH);
+        assert_eq!(calls::frame_write(edition, &[], &mut []), WRONG_LENGTH);
+        // The event is 6, refused, and the state, safety with update 1, stays.
+        let refused = WRONG_LENGTH + 256 * 6 + 65536 * 13;
+        assert_eq!(calls::follow(edition, 13, &[]), refused);
+    }
     assert_eq!(calls::warned(&[], 15), WRONG_LENGTH);
-    // The event is 6, refused, and the state, real with update 1, stays.
-    let refused = WRONG_LENGTH + 256 * 6 + 65536 * 5;
-    assert_eq!(calls::follow(5, &[]), refused);
 }
 
 #[test]
 fn of_places() {
     let record = Record::no_information(5).values();
-    let mut left = [7.0; 3];
-    assert_eq!(calls::report(&[], &mut left), WRONG_LENGTH);
-    assert_eq!(left, [7.0; 3]);
-    assert_eq!(calls::report(&record, &mut []), WRONG_LENGTH);
-    assert_eq!(calls::report(&[], &mut []), WRONG_LENGTH);
+    for edition in EDITIONS {
+        let mut left = [7.0; 3];
+        assert_eq!(calls::report(edition, &[], &mut left), WRONG_LENGTH);
+        assert_eq!(left, [7.0; 3]);
+        assert_eq!(calls::report(edition, &record, &mut []), WRONG_LENGTH);
+        assert_eq!(calls::report(edition, &[], &mut []), WRONG_LENGTH);
+    }
     assert_eq!(calls::desk(35.6, 139.7, 40.0, &mut []), WRONG_LENGTH);
 }
 
 #[test]
 fn of_captures() {
-    let frame = write(&Record::no_information(5)).expect("legal");
-    for n in [0, 1, u64::MAX] {
-        assert_eq!(calls::capture_source(&[], &[], n), 0);
-        let both = WRONG_LENGTH + 256 * WRONG_LENGTH;
-        assert_eq!(calls::capture_numbers(&[], &[], n), both);
+    let frame = write(Edition::First, &Record::no_information(5)).expect("legal");
+    for edition in EDITIONS {
+        for n in [0, 1, u64::MAX] {
+            assert_eq!(calls::capture_source(edition, &[], &[], n), 0);
+            let both = WRONG_LENGTH + 256 * WRONG_LENGTH;
+            assert_eq!(calls::capture_numbers(edition, &[], &[], n), both);
+        }
+        assert_eq!(calls::capture_source(edition, &frame, &[], 0), 1);
+        assert_eq!(calls::capture_source(edition, &[], &frame, 0), 2);
+        let numbers = |main: &[u8], spare: &[u8]| calls::capture_numbers(edition, main, spare, 0);
+        assert_eq!(numbers(&[], &frame), WRONG_LENGTH);
+        assert_eq!(numbers(&frame, &[]), 256 * WRONG_LENGTH);
     }
-    assert_eq!(calls::capture_source(&frame, &[], 0), 1);
-    assert_eq!(calls::capture_source(&[], &frame, 0), 2);
-    assert_eq!(calls::capture_numbers(&[], &frame, 0), WRONG_LENGTH);
-    assert_eq!(calls::capture_numbers(&frame, &[], 0), 256 * WRONG_LENGTH);
 }
 
 #[test]
 fn of_headers() {
-    let frame = write(&Record::no_information(5)).expect("legal");
+    let frame = write(Edition::First, &Record::no_information(5)).expect("legal");
     let record = Header::default();
     let legal = header::write(&record).expect("legal");
     let mut left = [7; 145];
@@ -74,11 +85,13 @@ fn of_headers() {
     let values = record.values();
     assert_eq!(calls::header_write(&values, &mut []), WRONG_LENGTH);
     assert_eq!(calls::header_write(&[], &mut []), WRONG_LENGTH);
-    let mut laid = legal;
-    assert_eq!(calls::lay_in(&mut laid, &[]), WRONG_LENGTH);
-    assert_eq!(laid, legal);
-    assert_eq!(calls::lay_in(&mut [], &frame), WRONG_LENGTH);
-    assert_eq!(calls::lay_in(&mut [], &[]), WRONG_LENGTH);
+    for edition in EDITIONS {
+        let mut laid = legal;
+        assert_eq!(calls::lay_in(edition, &mut laid, &[]), WRONG_LENGTH);
+        assert_eq!(laid, legal);
+        assert_eq!(calls::lay_in(edition, &mut [], &frame), WRONG_LENGTH);
+        assert_eq!(calls::lay_in(edition, &mut [], &[]), WRONG_LENGTH);
+    }
     assert_eq!(calls::take_out(&mut []), WRONG_LENGTH);
     assert_eq!(calls::crc32(&[]), 0xFFFF_FFFF);
 }

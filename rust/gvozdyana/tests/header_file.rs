@@ -1,10 +1,11 @@
 //! The names and numbers here are those of the C header, include/gvozdyana.h, which is read as text.
 use gvozdyana::capture::{source, Tuner};
 use gvozdyana::follower::{State, Update};
-use gvozdyana::frame::{write, Identification, Record, Warning, AREAS, FRAME_VALUES};
+use gvozdyana::frame::{write, Identification, Record, Safety, SafetyIdentification, Warning};
+use gvozdyana::frame::{AREAS, FRAME_VALUES};
 use gvozdyana::header::{Header, HEADER_VALUES};
 use gvozdyana::place::{fields, report, Fields, Place};
-use gvozdyana::{calls, Refusal, FRAME_BYTES, HEADER_BYTES};
+use gvozdyana::{calls, Edition, Refusal, FRAME_BYTES, HEADER_BYTES};
 use std::fmt::Debug;
 
 const HEADER_FILE: &str = include_str!("../../../include/gvozdyana.h");
@@ -60,6 +61,18 @@ fn warning() -> Warning {
         update: Update::new(1).expect("0 to 3"),
         time: 1000,
     }
+}
+
+/// The edition that has all there is.
+const EDITION: Edition = Edition::AreaSafety;
+
+fn safety(identification: SafetyIdentification) -> Record {
+    let safety = Safety {
+        identification,
+        update: warning().update,
+        time: 1000,
+    };
+    Record::area_safety(safety, 5)
 }
 
 const PLACE: Place = Place {
@@ -123,6 +136,13 @@ fn the_refusals() {
 }
 
 #[test]
+fn the_editions() {
+    let editions = [Edition::First, Edition::AreaSafety];
+    let expected = editions.map(|edition| told(edition, edition.number()));
+    assert_eq!(declared("gvz_edition", "GVZ_EDITION_"), expected);
+}
+
+#[test]
 fn the_fields_of_a_record() {
     let record = Record::from_values(std::array::from_fn(|i| i as u64));
     let expected = declared("gvz_record_index", "GVZ_RECORD_");
@@ -154,6 +174,11 @@ fn the_identifications() {
     ];
     let named = |of: Identification| (c_name(&format!("{of:?}")), of.number());
     let mut expected = Vec::from(warnings.map(named));
+    use SafetyIdentification::*;
+    expected.extend([AreaSafety, AreaSafetyTest].map(|of| {
+        assert_eq!(safety(of).identification, of.number());
+        (c_name(&format!("{of:?}")), of.number())
+    }));
     let no_information = Record::no_information(5).identification;
     expected.push(("NO_INFORMATION".to_string(), no_information));
     let numbers = declared("gvz_identification", "GVZ_IDENTIFICATION_");
@@ -173,9 +198,9 @@ fn the_events_and_states() {
             update,
             ..warning()
         };
-        write(&Record::cancellation(warning, 7)).expect("legal")
+        write(EDITION, &Record::cancellation(warning, 7)).expect("legal")
     };
-    let quiet = write(&Record::no_information(5)).expect("legal");
+    let quiet = write(EDITION, &Record::no_information(5)).expect("legal");
     let real = State::Real(warning().update);
     let events = [
         (State::Quiet, &quiet),
@@ -187,15 +212,28 @@ fn the_events_and_states() {
         (real, &[0; 26]),
     ]
     .map(|(state, frame)| {
-        let number = calls::follow(state.number(), frame) >> 8 & 255;
-        told(state.follow(frame).1, number)
+        let number = calls::follow(EDITION.number(), state.number(), frame) >> 8 & 255;
+        told(state.follow(EDITION, frame).1, number)
     });
     assert_eq!(declared("gvz_event", "GVZ_EVENT_"), events);
     assert_eq!(defined("GVZ_STATE_QUIET"), "0u");
     assert_eq!(defined("GVZ_STATE_REAL(u)"), "(4u + (u))");
     assert_eq!(defined("GVZ_STATE_TEST(u)"), "(8u + (u))");
-    let numbers = [real, State::Test(warning().update), State::Quiet].map(State::number);
-    assert_eq!(numbers, [5, 9, 0]);
+    assert_eq!(defined("GVZ_STATE_SAFETY(u)"), "(12u + (u))");
+    assert_eq!(defined("GVZ_STATE_SAFETY_TEST(u)"), "(16u + (u))");
+    let update = warning().update;
+    let states = [
+        real,
+        State::Test(update),
+        State::Safety(update),
+        State::SafetyTest(update),
+        State::Quiet,
+    ];
+    assert_eq!(states.map(State::number), [5, 9, 13, 17, 0]);
+    assert_eq!(
+        states.map(|state| State::from_number(state.number())),
+        states
+    );
 }
 
 #[test]
@@ -206,23 +244,24 @@ fn the_reports() {
         Record::at_place(warning(), 7, fields, 990),
         Record::cancellation(warning(), 7),
         Record::for_areas(warning(), [15]).expect("0 to 55"),
+        safety(SafetyIdentification::AreaSafety),
     ]
     .map(|record| {
-        let status = calls::report(&record.values(), &mut [0.0; 3]);
-        told(report(&record).expect("legal"), status >> 8)
+        let status = calls::report(EDITION.number(), &record.values(), &mut [0.0; 3]);
+        told(report(EDITION, &record).expect("legal"), status >> 8)
     });
     assert_eq!(declared("gvz_report_case", "GVZ_REPORT_"), cases);
 }
 
 #[test]
 fn the_tuners() {
-    let frame = write(&Record::no_information(5)).expect("legal");
+    let frame = write(EDITION, &Record::no_information(5)).expect("legal");
     let captures: [(&[u8], &[u8]); 3] = [(&[], &[]), (&frame, &[]), (&[], &frame)];
-    let sources = captures.map(|(main, spare)| source(main, spare, 0));
+    let sources = captures.map(|(main, spare)| source(EDITION, main, spare, 0));
     assert_eq!(sources, [None, Some(Tuner::Main), Some(Tuner::Spare)]);
     let tuners = captures.map(|(main, spare)| {
-        let number = calls::capture_source(main, spare, 0);
-        match source(main, spare, 0) {
+        let number = calls::capture_source(EDITION.number(), main, spare, 0);
+        match source(EDITION, main, spare, 0) {
             None => ("NEITHER".to_string(), number.into()),
             Some(tuner) => told(tuner, number),
         }
@@ -249,7 +288,8 @@ fn the_places() {
     assert_eq!(shown(expected), named.collect::<Vec<_>>());
     let record = Record::at_place(warning(), 7, expected, 990);
     let mut doubles = [0.0; 3];
-    assert_eq!(calls::report(&record.values(), &mut doubles), 256);
+    let status = calls::report(EDITION.number(), &record.values(), &mut doubles);
+    assert_eq!(status, 256);
     let place = declared("gvz_place_index", "GVZ_PLACE_");
     let at = |name: &str| {
         let (_, i) = place

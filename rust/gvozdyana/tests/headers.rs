@@ -1,12 +1,14 @@
-//! Headers read, written, laid into and taken out of, by the proved version and by the plain one. What a header was made with is compared too.
+//! Headers read, written, laid into, in both editions, and taken out of, by the proved version and by the plain one. What a header was made with is
+//! compared too.
 mod common;
-use common::{for_each_seed, headers, hex, length, numbers, Case};
-use gvozdyana::calls;
-use gvozdyana::header::{read, write, Header};
+use common::{edition_number, edition_of, for_each_seed, headers, hex, length, numbers, Case};
+use gvozdyana::header::{lay_in, read, write, Header};
+use gvozdyana::{calls, Edition, Refusal};
 use reference::flip_bit;
 use reference::header as plain;
-use samples::frames::frame;
+use samples::frames::{frame, written};
 use samples::headers::{faulty, header, legal_record, record, seal};
+use samples::records::{self as frames, Body};
 
 /// Which numbers occurred, and how often.
 type Seen = [u32; 16];
@@ -134,23 +136,44 @@ fn changed(
 
 #[test]
 fn frames_laid_in_and_taken_out() {
-    let (mut laid, mut taken) = (Seen::default(), Seen::default());
+    let (mut laid, mut taken) = ([Seen::default(); 2], Seen::default());
     for_each_seed(43, headers(), |random, case| {
         let before = match random.below(2) {
             0 => header(random).bytes,
             _ => faulty(&[], random).bytes,
         };
         let frame = frame(random).bytes;
-        laid[changed(
+        let edition = edition_number(random);
+        let (_, named) = edition_of(edition);
+        laid[named as usize][changed(
             &before,
-            |h| calls::lay_in(h, &frame),
-            |h| plain::lay_in(h, &frame),
+            |h| calls::lay_in(edition, h, &frame),
+            |h| plain::lay_in(named, h, &frame),
             case,
         )] += 1;
         taken[changed(&before, calls::take_out, plain::take_out, case)] += 1;
     });
-    expect_seen(&laid, &[0, 1, 2, 3, 4, 5, 6, 7, 8, 9, 12, 13, 14, 15]);
+    for laid in laid {
+        expect_seen(&laid, &[0, 1, 2, 3, 4, 5, 6, 7, 8, 9, 12, 13, 14, 15]);
+    }
     expect_seen(&taken, &[0, 1, 12, 13, 14, 15]);
+}
+
+/// Area safety information is laid in by its own edition alone.
+#[test]
+fn area_safety_laid_in() {
+    let empty = write(&Header::default()).expect("legal");
+    for_each_seed(47, 200, |random, case| {
+        let frame = written(&frames::legal_record(Body::Safety, random));
+        let mut header = empty;
+        let refused = lay_in(Edition::First, &mut header, &frame);
+        assert_eq!(refused, Err(Refusal::Identification), "{case}");
+        assert_eq!(header, empty, "{case}");
+        assert_eq!(lay_in(Edition::AreaSafety, &mut header, &frame), Ok(()));
+        assert_eq!(hex(&header[99..124]), hex(&frame[..25]), "{case}");
+        assert_eq!(header[124], frame[25] | 0x0F, "{case}");
+        assert!(read(&header).is_ok(), "{case}");
+    });
 }
 
 #[test]

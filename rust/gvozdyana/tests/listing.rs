@@ -1,4 +1,5 @@
-//! The listing program, fed through a pipe, against the plain version.
+//! The listing programs, one for each edition, fed through a pipe, against the plain version.
+use reference::frame::{Edition, EDITIONS};
 use reference::listing::{line, listing, MOST};
 use reference::FRAME_BYTES;
 use std::io::Write;
@@ -6,19 +7,21 @@ use std::path::PathBuf;
 use std::process::{Command, Stdio};
 use std::thread;
 
-fn program() -> PathBuf {
-    let path = PathBuf::from(env!("CARGO_MANIFEST_DIR")).join("../../target/bin/list_frames");
-    assert!(
-        path.exists(),
-        "{} is built by rt check list_frames",
-        path.display()
-    );
+fn program(edition: Edition) -> PathBuf {
+    let name = match edition {
+        Edition::First => "list_frames",
+        Edition::AreaSafety => "list_frames_safety",
+    };
+    let folder = PathBuf::from(env!("CARGO_MANIFEST_DIR")).join("../../target/bin");
+    let path = folder.join(name);
+    let built = format!("{} is built by rt check {name}", path.display());
+    assert!(path.exists(), "{built}");
     path
 }
 
-/// What the program writes when these pieces come through a pipe, one write each.
-fn listed(pieces: Vec<Vec<u8>>) -> Vec<u8> {
-    let mut child = Command::new(program())
+/// What the edition's program writes when these pieces come through a pipe, one write each.
+fn listed(edition: Edition, pieces: Vec<Vec<u8>>) -> Vec<u8> {
+    let mut child = Command::new(program(edition))
         .stdin(Stdio::piped())
         .stdout(Stdio::piped())
         .spawn()
@@ -50,31 +53,43 @@ fn clean() -> Vec<u8> {
 fn pieces_of_a_pipe_are_put_together() {
     let mut input = clean();
     input.extend([1, 2, 3, 4, 5]);
-    for size in [1, 5, 13, 26, 31] {
-        let pieces = input.chunks(size).map(|piece| piece.to_vec()).collect();
-        assert_eq!(listed(pieces), b"1 0 0\n2 1 -\nend 2\n", "pieces of {size}");
+    for edition in EDITIONS {
+        for size in [1, 5, 13, 26, 31] {
+            let pieces = input.chunks(size).map(|piece| piece.to_vec()).collect();
+            let lines = listed(edition, pieces);
+            assert_eq!(lines, b"1 0 0\n2 1 -\nend 2\n", "pieces of {size}");
+        }
+        assert_eq!(listed(edition, vec![]), b"end 0\n");
     }
-    assert_eq!(listed(vec![]), b"end 0\n");
 }
 
+/// Frames of all sorts, cut to their length so that none moves those after it, noise, and a short last piece.
 #[test]
 fn frames_of_all_sorts() {
     let mut random = samples::Random::new(11);
-    let input = random.bytes(26 * 3000 + 7);
-    assert_eq!(listed(vec![input.clone()]), listing(&input));
+    let mut input = vec![];
+    for _ in 0..3000 {
+        let mut bytes = samples::frames::frame(&mut random).bytes;
+        bytes.resize(FRAME_BYTES, 0);
+        input.extend(bytes);
+    }
+    input.extend(random.bytes(26 * 1000 + 7));
+    let lines = EDITIONS.map(|edition| listed(edition, vec![input.clone()]));
+    assert_eq!(lines, EDITIONS.map(|edition| listing(edition, &input)));
+    assert_ne!(lines[0], lines[1]);
 }
 
 #[test]
 fn it_stops_after_frame_999_999() {
-    for more in [0, 1, 2] {
-        let output = listed(vec![clean().repeat(1000); 999 + more]);
+    for (edition, more) in EDITIONS.into_iter().flat_map(|e| [0, 1, 2].map(|m| (e, m))) {
+        let output = listed(edition, vec![clean().repeat(1000); 999 + more]);
         let count = (1000 * (999 + more)).min(MOST);
         let text = String::from_utf8(output).expect("text");
         let mut lines = text.lines();
         for number in 1..=count {
             let given = lines.next().expect("a line");
             if number == 1 || number == count {
-                assert_eq!(format!("{given}\n"), line(number, &clean()));
+                assert_eq!(format!("{given}\n"), line(edition, number, &clean()));
             } else {
                 assert_eq!(given, format!("{number} 0 0"));
             }

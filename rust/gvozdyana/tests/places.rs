@@ -1,13 +1,13 @@
-//! Reports of records, and the desk's places, by the proved version and by the plain one; doubles are compared by their bits.
+//! Reports of records, in both editions, and the desk's places, by the proved version and by the plain one; doubles are compared by their bits.
 mod common;
-use common::{for_each_seed, frames, length, numbers};
+use common::{edition_number, edition_of, for_each_seed, frames, length, numbers, EDITIONS};
 use gvozdyana::calls;
 use gvozdyana::frame::Record;
 use gvozdyana::place::{fields, report, Fields, Place, Report};
 use gvozdyana::Refusal;
 use reference::place as plain;
 use samples::doubles::{depth, double, SPECIAL};
-use samples::records::{legal_record, record, Body};
+use samples::records::{legal_record, record, Body, BODIES};
 
 /// The proved desk's status and buffer, of `fields_len` values that hold 7, are the plain version's; then its number.
 fn desk(place: [f64; 3], fields_len: usize) -> u8 {
@@ -106,10 +106,12 @@ fn places_of_all_sorts() {
 
 #[test]
 fn reports_of_all_sorts() {
-    let mut seen = [0; 16];
+    let mut seen = [[0; 16]; 2];
     for_each_seed(23, frames() / 2, |random, case| {
+        let edition = edition_number(random);
+        let (typed_edition, plain_edition) = edition_of(edition);
         let values = record(random);
-        let (record_len, place_len) = (length(18, random), length(3, random));
+        let (record_len, place_len) = (length(19, random), length(3, random));
         let mut given = values.to_vec();
         given.resize(40, 0);
         let before: Vec<f64> = numbers(place_len, random)
@@ -117,9 +119,9 @@ fn reports_of_all_sorts() {
             .map(f64::from_bits)
             .collect();
         let mut left = before.clone();
-        let status = calls::report(&given[..record_len], &mut left);
+        let status = calls::report(edition, &given[..record_len], &mut left);
         let answer = match (record_len, place_len) {
-            (18, 3) => plain::report(&values),
+            (19, 3) => plain::report(plain_edition, &values),
             _ => Err(1),
         };
         let mut expected = before;
@@ -131,16 +133,19 @@ fn reports_of_all_sorts() {
             }
             Ok(plain::Report::Cancellation) => 512,
             Ok(plain::Report::AreasOnly) => 768,
+            Ok(plain::Report::AreaSafety) => 1024,
             Err(number) => u32::from(number),
         };
-        let what = || format!("record {values:?} of {record_len}, place of {place_len}, {case}");
+        let what = || {
+            format!("edition {edition}, record {values:?} of {record_len}, place of {place_len}, {case}")
+        };
         assert_eq!(status, expected_status, "{}", what());
         let bits = |doubles: &[f64]| doubles.iter().map(|x| x.to_bits()).collect::<Vec<u64>>();
         assert_eq!(bits(&left), bits(&expected), "{}", what());
-        seen[(status & 255) as usize] += 1;
+        seen[typed_edition as usize][(status & 255) as usize] += 1;
     });
     println!("reported and refused 1, 6, 9, 10: {seen:?}");
-    for number in 0..16 {
+    for (seen, number) in seen.iter().flat_map(|seen| (0..16).map(move |n| (seen, n))) {
         let occurs = [0, 1, 6, 9, 10].contains(&number);
         assert_eq!(seen[number] > 0, occurs, "{number}: {seen:?}");
     }
@@ -150,7 +155,8 @@ fn reports_of_all_sorts() {
 fn places_come_back() {
     for_each_seed(24, frames() / 5, |random, case| {
         let record = Record::from_values(legal_record(Body::Place, random));
-        let Ok(Report::Place(place)) = report(&record) else {
+        let (edition, _) = random.pick(&EDITIONS);
+        let Ok(Report::Place(place)) = report(edition, &record) else {
             panic!("{record:?}, {case}");
         };
         let expected = Fields {
@@ -166,5 +172,30 @@ fn places_come_back() {
             ..place
         };
         assert_eq!(fields(other), Err(Refusal::NoImage), "{case}");
+    });
+}
+
+/// The case with types is the plain version's, in both editions.
+#[test]
+fn reports_of_every_body() {
+    for_each_seed(27, frames() / 50, |random, case| {
+        let values = legal_record(random.pick(&BODIES), random);
+        let record = Record::from_values(values);
+        for (edition, plain_edition) in EDITIONS {
+            let place = |p: plain::Place| Place {
+                latitude: p.latitude,
+                longitude: p.longitude,
+                depth: p.depth,
+            };
+            let expected = plain::report(plain_edition, &values).map(|report| match report {
+                plain::Report::Nothing => Report::Nothing,
+                plain::Report::Place(p) => Report::Place(place(p)),
+                plain::Report::Cancellation => Report::Cancellation,
+                plain::Report::AreasOnly => Report::AreasOnly,
+                plain::Report::AreaSafety => Report::AreaSafety,
+            });
+            let answer = report(edition, &record).map_err(Refusal::number);
+            assert_eq!(answer, expected, "{edition:?}, {record:?}, {case}");
+        }
     });
 }

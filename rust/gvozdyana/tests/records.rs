@@ -1,10 +1,12 @@
-//! Records made of what is meant: what they hold, that the writer takes them exactly where the numbers fit, and what is read of them.
+//! Records made of what is meant: what they hold, that the writer takes them exactly where the numbers fit, and what is read of them, in both editions.
 mod common;
-use common::for_each_seed;
+use common::{for_each_seed, EDITIONS};
 use gvozdyana::follower::{Event, State, Update};
-use gvozdyana::frame::{read, write, Identification, Record, Warning, AREAS};
-use gvozdyana::place::{report, Fields, Report};
-use gvozdyana::Refusal;
+use gvozdyana::frame::{
+    read, write, Identification, Record, Safety, SafetyIdentification, Warning, AREAS,
+};
+use gvozdyana::place::{self, Fields, Report};
+use gvozdyana::{Edition, Refusal};
 use reference::frame as plain;
 use samples::Random;
 
@@ -34,17 +36,44 @@ fn place(random: &mut Random) -> Fields {
 }
 
 /// The record has these values and 0 elsewhere, is written as the plain version writes it, and is read back; then the event of its frame.
-fn expect(record: Record, fields: &[(usize, u64)]) -> (State, Event) {
-    let mut values = [0; 18];
+fn expect_by(
+    (edition, plain_edition): (Edition, plain::Edition),
+    record: Record,
+    fields: &[(usize, u64)],
+) -> (State, Event) {
+    let mut values = [0; 19];
     for &(field, value) in fields {
         values[field] = value;
     }
     assert_eq!(record.values(), values);
     let mut expected = [0; 26];
-    assert_eq!(plain::write(&values, &mut expected), 0, "{record:?}");
-    assert_eq!(write(&record), Ok(expected));
-    assert_eq!(read(&expected).map(|reading| reading.record), Ok(record));
-    State::Quiet.follow(&expected)
+    let number = plain::write(plain_edition, &values, &mut expected);
+    assert_eq!(number, 0, "{record:?}");
+    assert_eq!(write(edition, &record), Ok(expected));
+    let again = read(edition, &expected).map(|reading| reading.record);
+    assert_eq!(again, Ok(record));
+    State::Quiet.follow(edition, &expected)
+}
+
+/// The same in both editions, which say the same.
+fn expect(record: Record, fields: &[(usize, u64)]) -> (State, Event) {
+    let [first, safety] = EDITIONS.map(|editions| expect_by(editions, record, fields));
+    assert_eq!(first, safety, "{record:?}");
+    first
+}
+
+/// Both editions report the same.
+fn report(record: &Record) -> Result<Report, Refusal> {
+    let [first, safety] = EDITIONS.map(|(edition, _)| place::report(edition, record));
+    assert_eq!(first, safety, "{record:?}");
+    first
+}
+
+/// Both editions refuse to write it for the same.
+fn refused(record: &Record) -> Option<Refusal> {
+    let [first, safety] = EDITIONS.map(|(edition, _)| write(edition, record).err());
+    assert_eq!(first, safety, "{record:?}");
+    first
 }
 
 /// The fields that every warning has, on this page.
@@ -80,7 +109,7 @@ fn no_information() {
     }
     for broadcaster in [2048, u64::MAX] {
         let record = Record::no_information(broadcaster);
-        assert_eq!(write(&record), Err(Refusal::Field));
+        assert_eq!(refused(&record), Some(Refusal::Field));
     }
 }
 
@@ -144,7 +173,7 @@ fn places() {
         let mut over = place;
         over.latitude = 901;
         let record = Record::at_place(warning, number, over, occurred);
-        assert_eq!(write(&record), Err(Refusal::OverLimit), "{case}");
+        assert_eq!(refused(&record), Some(Refusal::OverLimit), "{case}");
     });
 }
 
@@ -159,12 +188,60 @@ fn cancellations() {
         assert_eq!(report(&record), Ok(Report::Cancellation), "{case}");
         assert_eq!(record.warned_areas().count(), 0, "{case}");
         let wide = Record::cancellation(warning, 512);
-        assert_eq!(write(&wide), Err(Refusal::Field), "{case}");
+        assert_eq!(refused(&wide), Some(Refusal::Field), "{case}");
         let late = Warning {
             time: 1 << 31,
             ..warning
         };
         let record = Record::cancellation(late, number);
-        assert_eq!(write(&record), Err(Refusal::Field), "{case}");
+        assert_eq!(refused(&record), Some(Refusal::Field), "{case}");
+    });
+}
+
+/// Area safety information and its test, which the first edition does not have.
+#[test]
+fn area_safety() {
+    use SafetyIdentification::{AreaSafety, AreaSafetyTest};
+    let [(first, _), editions] = EDITIONS;
+    for_each_seed(65, 5000, |random, case| {
+        let safety = Safety {
+            identification: random.pick(&[AreaSafety, AreaSafetyTest]),
+            update: Update::new(random.below(4) as u8).expect("0 to 3"),
+            time: random.up_to((1 << 31) - 1),
+        };
+        let region = random.up_to((1 << 57) - 1);
+        let record = Record::area_safety(safety, region);
+        let fields = [
+            (plain::IDENTIFICATION, safety.identification as u64),
+            (plain::UPDATE, safety.update.number().into()),
+            (plain::TIME, safety.time),
+            (plain::REGION, region),
+        ];
+        let state = match safety.identification {
+            AreaSafety => State::Safety(safety.update),
+            AreaSafetyTest => State::SafetyTest(safety.update),
+        };
+        let followed = expect_by(editions, record, &fields);
+        assert_eq!(followed, (state, Event::Begins), "{case}");
+        let report = |edition, record| place::report(edition, record);
+        assert_eq!(
+            report(editions.0, &record),
+            Ok(Report::AreaSafety),
+            "{case}"
+        );
+        let undefined = Refusal::Identification;
+        assert_eq!(report(first, &record), Err(undefined), "{case}");
+        assert_eq!(write(first, &record), Err(undefined), "{case}");
+        assert_eq!(record.warned_areas().count(), 0, "{case}");
+        for wide in [
+            Record::area_safety(safety, region | 1 << 57),
+            Record {
+                time: 1 << 31,
+                ..record
+            },
+        ] {
+            assert_eq!(write(editions.0, &wide), Err(Refusal::Field), "{case}");
+            assert_eq!(write(first, &wide), Err(undefined), "{case}");
+        }
     });
 }

@@ -1,6 +1,7 @@
 //! Seeded cases. GVZ_SEED starts from another seed; GVZ_FRAMES and GVZ_HEADERS ask for other numbers of cases. A mismatch tells its case.
 #![allow(dead_code)]
-use gvozdyana::Refusal;
+use gvozdyana::{Edition, Refusal};
+use reference::frame as plain;
 use samples::Random;
 use std::fmt;
 
@@ -21,6 +22,26 @@ fn setting(name: &str, default: u64) -> u64 {
         text.parse()
             .unwrap_or_else(|_| panic!("{name} is not a number: {text}"))
     })
+}
+
+/// The edition as the wrapper and the plain version name it.
+pub const EDITIONS: [(Edition, plain::Edition); 2] = [
+    (Edition::First, plain::Edition::First),
+    (Edition::AreaSafety, plain::Edition::AreaSafety),
+];
+
+/// A number that a C program may name an edition by: of those that no edition has, some are one once they are cut short.
+pub fn edition_number(random: &mut Random) -> u32 {
+    match random.below(4) {
+        0 => random.pick(&[2, 3, 256, 257, 1 << 16 | 1, 1 << 31 | 1, u32::MAX]),
+        1 => random.number() as u32,
+        _ => random.below(2) as u32,
+    }
+}
+
+/// The edition that a number is taken for: 1 is area safety, and any other the first.
+pub fn edition_of(number: u32) -> (Edition, plain::Edition) {
+    EDITIONS[usize::from(number == 1)]
 }
 
 /// Which case of a sort, and the seed that makes it.
