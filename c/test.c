@@ -1,12 +1,13 @@
 /* Calls every function that include/gvozdyana.h declares, on what is accepted and on what is refused, and compares the answers and the
- * buffers. Exits with 0 only if all are as expected. */
+ * buffers. What the editions answer alike is asked by each of them, and by numbers that no edition has. Exits with 0 only if all are as
+ * expected. */
 #include "gvozdyana.h"
 
 #include <stdio.h>
 #include <string.h>
 
 /* Frames as they stand on the air: document 01's example 11, with one hit, with B1 to B3 damaged and eight hits, with the generator's nine
- * places; a place, a cancellation, no information; and one refusal each. */
+ * places; a place, a cancellation, no information, area safety information, its test hit in eight places; and one refusal each. */
 static const char ALL_AREAS[] = "1af7000000000000000000000000000000000000000000000000";
 static const char ONE_HIT[] = "1af7000000000000000000000000000000000000000000000010";
 static const char THREE_SYNC_BITS[] = "6af7000000000000000000000000004308c01100000000000000";
@@ -14,7 +15,13 @@ static const char NINE_HITS[] = "1af7000000000000000000000000004308c011100000000
 static const char PLACE[] = "9af70a0000000ba58ac9aea147094cf61e307cb8e3e2d6661040";
 static const char CANCELLATION[] = "1af70000000001001fffffffffffe43d0ff2f235a3cbf9db1c70";
 static const char NO_INFORMATION[] = "1af77fffffffffffffffffffffff698fbee80b006e0824cd3d10";
+static const char AREA_SAFETY[] = "1af705123456789abcdef01234563dee663d35a7819a35d06b00";
+static const char AREA_SAFETY_TEST[] = "1af706000047d0f1123446789abdb994d4f1064d5410673bf7c0";
 static const char CLEAN_WRONG_CRC[] = "1af7000000000000000000000000004308c01110114014404110";
+
+/* The editions, and numbers that are taken for the first; the last two are area safety in their low bits alone. */
+static const uint32_t EDITIONS[] = {GVZ_EDITION_FIRST, GVZ_EDITION_AREA_SAFETY, 2, 0xFFFFFFFF, 257, 65537};
+enum { NUMBERS = sizeof EDITIONS / sizeof *EDITIONS };
 
 static int failures = 0;
 
@@ -108,18 +115,34 @@ static void test_repair(void)
 }
 
 /* The record of PLACE, a test: 35.6 south, 139.7 west, 40 km. */
-static const uint64_t place_record[GVZ_FRAME_VALUES] = {1, 0, 2, 1, 5, 1, 0, 1, 0, 300, 0, 1, 356, 1, 1397, 40, 900, 0};
+static const uint64_t place_record[GVZ_FRAME_VALUES] = {1, 0, 2, 1, 5, 1, 0, 1, 0, 300, 0, 1, 356, 1, 1397, 40, 900, 0, 0};
 
-/* Of 20 values that hold 7 the first 18 are left as `record`, if it is not NULL, and the rest as they were. */
-static void expect_frame_read(const char *what, const char *digits, size_t frame_len, size_t record_len, uint32_t status,
-    const uint64_t *record)
+/* The record of AREA_SAFETY. */
+static const uint64_t safety_record[GVZ_FRAME_VALUES] = {
+    [GVZ_RECORD_IDENTIFICATION] = GVZ_IDENTIFICATION_AREA_SAFETY,
+    [GVZ_RECORD_TIME] = 0x91A2B3C,
+    [GVZ_RECORD_REGION] = 0x9ABCDEF0123456,
+};
+
+/* Of 20 values that hold 7 the first 19 are left as `record`, if it is not NULL, and the rest as they were. */
+static void expect_frame_read_by(uint32_t edition, const char *what, const char *digits, size_t frame_len, size_t record_len,
+    uint32_t status, const uint64_t *record)
 {
     uint64_t left[20], expected[20];
     for (int i = 0; i < 20; i++) {
         left[i] = 7;
         expected[i] = record != NULL && i < GVZ_FRAME_VALUES ? record[i] : 7;
     }
-    expect_left(what, gvz_frame_read(frame_of(digits), frame_len, left, record_len), status, left, expected, sizeof left);
+    expect_left(what, gvz_frame_read(edition, frame_of(digits), frame_len, left, record_len), status, left, expected, sizeof left);
+}
+
+/* The same by every edition. */
+static void expect_frame_read(const char *what, const char *digits, size_t frame_len, size_t record_len, uint32_t status,
+    const uint64_t *record)
+{
+    for (int i = 0; i < NUMBERS; i++) {
+        expect_frame_read_by(EDITIONS[i], what, digits, frame_len, record_len, status, record);
+    }
 }
 
 static void test_frame_read(void)
@@ -132,57 +155,134 @@ static void test_frame_read(void)
     nothing[GVZ_RECORD_BROADCASTER] = 2047;
     pattern_1[GVZ_RECORD_PATTERN] = 1;
 
-    expect_frame_read("all areas", ALL_AREAS, 26, 18, 0, zeros);
-    expect_frame_read("one hit", ONE_HIT, 26, 18, 1 << 8, zeros);
-    expect_frame_read("three synchronising bits and eight hits", THREE_SYNC_BITS, 26, 18, (3 << 16) + (8 << 8), zeros);
-    expect_frame_read("13 bits from pattern 0", "650b000000000000000000000000000000000000000000000000", 26, 18, 3 << 16, pattern_1);
-    expect_frame_read("one synchronising bit and nine hits: the number alone", "5af7000000000000000000000000004308c01110000000000000", 26, 18,
+    expect_frame_read("all areas", ALL_AREAS, 26, 19, 0, zeros);
+    expect_frame_read("one hit", ONE_HIT, 26, 19, 1 << 8, zeros);
+    expect_frame_read("three synchronising bits and eight hits", THREE_SYNC_BITS, 26, 19, (3 << 16) + (8 << 8), zeros);
+    expect_frame_read("13 bits from pattern 0", "650b000000000000000000000000000000000000000000000000", 26, 19, 3 << 16, pattern_1);
+    expect_frame_read("one synchronising bit and nine hits: the number alone", "5af7000000000000000000000000004308c01110000000000000", 26, 19,
         GVZ_REFUSAL_BEYOND_REPAIR, NULL);
-    expect_frame_read("four bits from pattern 0", "62f7000000000000000000000000000000000000000000000000", 26, 18, GVZ_REFUSAL_NO_PATTERN, NULL);
-    expect_frame_read("four bits from pattern 1", "650f000000000000000000000000000000000000000000000000", 26, 18, GVZ_REFUSAL_NO_PATTERN, NULL);
-    expect_frame_read("a cancellation", CANCELLATION, 26, 18, 0, cancellation);
-    expect_frame_read("no information", NO_INFORMATION, 26, 18, 0, nothing);
-    expect_frame_read("a place", PLACE, 26, 18, 0, place_record);
-    expect_frame_read("25 bytes", ALL_AREAS, 25, 18, GVZ_REFUSAL_WRONG_LENGTH, NULL);
-    expect_frame_read("filler", "1af7000000000000000000000000000000000000000000000001", 26, 18, GVZ_REFUSAL_FILLER_SET, NULL);
-    expect_frame_read("no pattern", "0000000000000000000000000000000000000000000000000000", 26, 18, GVZ_REFUSAL_NO_PATTERN, NULL);
-    expect_frame_read("nine hits", NINE_HITS, 26, 18, GVZ_REFUSAL_BEYOND_REPAIR, NULL);
-    expect_frame_read("CRC", CLEAN_WRONG_CRC, 26, 18, GVZ_REFUSAL_FRAME_CRC, NULL);
-    expect_frame_read("identification 4", "1af7640000000000000000000000dd6ba7e8239c630ae7c28140", 26, 18, GVZ_REFUSAL_IDENTIFICATION, NULL);
-    expect_frame_read("update 2 of 7", "1af777ffffffff00bfffffffffff3e583d134b51523b875a54e0", 26, 18, GVZ_REFUSAL_START_END_OR_UPDATE, NULL);
-    expect_frame_read("B111", "1af7000000000100070a0000000071fee4dcd9339873b730f150", 26, 18, GVZ_REFUSAL_FIXED_BIT, NULL);
-    expect_frame_read("latitude 901", "1af70a0000000ba58f0baea14709a335ac25ca42ddbf9efe2c30", 26, 18, GVZ_REFUSAL_OVER_LIMIT, NULL);
-    expect_frame_read("a record of 17", ALL_AREAS, 26, 17, GVZ_REFUSAL_WRONG_LENGTH, NULL);
-    expect_frame_read("a record of 19", ALL_AREAS, 26, 19, GVZ_REFUSAL_WRONG_LENGTH, NULL);
+    expect_frame_read("four bits from pattern 0", "62f7000000000000000000000000000000000000000000000000", 26, 19, GVZ_REFUSAL_NO_PATTERN, NULL);
+    expect_frame_read("four bits from pattern 1", "650f000000000000000000000000000000000000000000000000", 26, 19, GVZ_REFUSAL_NO_PATTERN, NULL);
+    expect_frame_read("a cancellation", CANCELLATION, 26, 19, 0, cancellation);
+    expect_frame_read("no information", NO_INFORMATION, 26, 19, 0, nothing);
+    expect_frame_read("a place", PLACE, 26, 19, 0, place_record);
+    expect_frame_read("25 bytes", ALL_AREAS, 25, 19, GVZ_REFUSAL_WRONG_LENGTH, NULL);
+    expect_frame_read("filler", "1af7000000000000000000000000000000000000000000000001", 26, 19, GVZ_REFUSAL_FILLER_SET, NULL);
+    expect_frame_read("no pattern", "0000000000000000000000000000000000000000000000000000", 26, 19, GVZ_REFUSAL_NO_PATTERN, NULL);
+    expect_frame_read("nine hits", NINE_HITS, 26, 19, GVZ_REFUSAL_BEYOND_REPAIR, NULL);
+    expect_frame_read("CRC", CLEAN_WRONG_CRC, 26, 19, GVZ_REFUSAL_FRAME_CRC, NULL);
+    expect_frame_read("identification 4", "1af7640000000000000000000000dd6ba7e8239c630ae7c28140", 26, 19, GVZ_REFUSAL_IDENTIFICATION, NULL);
+    expect_frame_read("update 2 of 7", "1af777ffffffff00bfffffffffff3e583d134b51523b875a54e0", 26, 19, GVZ_REFUSAL_START_END_OR_UPDATE, NULL);
+    expect_frame_read("B111", "1af7000000000100070a0000000071fee4dcd9339873b730f150", 26, 19, GVZ_REFUSAL_FIXED_BIT, NULL);
+    expect_frame_read("latitude 901", "1af70a0000000ba58f0baea14709a335ac25ca42ddbf9efe2c30", 26, 19, GVZ_REFUSAL_OVER_LIMIT, NULL);
+    expect_frame_read("a record of 18", ALL_AREAS, 26, 18, GVZ_REFUSAL_WRONG_LENGTH, NULL);
+    expect_frame_read("a record of 20", ALL_AREAS, 26, 20, GVZ_REFUSAL_WRONG_LENGTH, NULL);
 }
 
-/* place_record with one field changed, written into 28 bytes that hold 0xA5. */
-static void expect_frame_write(const char *what, int field, uint64_t value, size_t record_len, size_t frame_len, uint32_t status,
-    const char *digits)
+/* Area safety information, which the first edition refuses: what its own edition answers. */
+static void expect_safety_read(const char *what, const char *digits, uint32_t status, const uint64_t *record)
+{
+    for (int i = 0; i < NUMBERS; i++) {
+        if (EDITIONS[i] == GVZ_EDITION_AREA_SAFETY) {
+            expect_frame_read_by(EDITIONS[i], what, digits, 26, 19, status, record);
+        } else {
+            expect_frame_read_by(EDITIONS[i], what, digits, 26, 19, GVZ_REFUSAL_IDENTIFICATION, NULL);
+        }
+    }
+}
+
+static void test_safety_read(void)
+{
+    uint64_t test[GVZ_FRAME_VALUES] = {0}, ones[GVZ_FRAME_VALUES] = {0}, highest[GVZ_FRAME_VALUES] = {0};
+    test[GVZ_RECORD_IDENTIFICATION] = GVZ_IDENTIFICATION_AREA_SAFETY_TEST;
+    test[GVZ_RECORD_UPDATE] = 1;
+    test[GVZ_RECORD_TIME] = 1000;
+    test[GVZ_RECORD_REGION] = 0xF0123456789ABC;
+    ones[GVZ_RECORD_IDENTIFICATION] = GVZ_IDENTIFICATION_AREA_SAFETY_TEST;
+    ones[GVZ_RECORD_UPDATE] = 3;
+    ones[GVZ_RECORD_TIME] = 0x7FFFFFFF;
+    ones[GVZ_RECORD_REGION] = 0x1FFFFFFFFFFFFFF;
+    highest[GVZ_RECORD_IDENTIFICATION] = GVZ_IDENTIFICATION_AREA_SAFETY;
+    highest[GVZ_RECORD_UPDATE] = 2;
+    highest[GVZ_RECORD_REGION] = UINT64_C(1) << 56;
+
+    expect_safety_read("area safety", AREA_SAFETY, 0, safety_record);
+    expect_safety_read("its test, eight hits", AREA_SAFETY_TEST, 8 << 8, test);
+    expect_safety_read("its test, all ones", "1af71efffffffffffffffffffffffbb60756ba98197b6583d440", 0, ones);
+    expect_safety_read("B55 belongs to the region", "1af71500000001000000000000001d6a7918b34f91c2e858c1b0", 0, highest);
+    expect_safety_read("start/end 11", "1af77d00000000000000000000004f79f17838e1e22a605242a0", GVZ_REFUSAL_START_END_OR_UPDATE, NULL);
+    expect_frame_read("a wrong CRC", "1af70500000000000000000000004f11169683140539b2cc2900", 26, 19, GVZ_REFUSAL_FRAME_CRC, NULL);
+}
+
+/* A record with one field changed, written into 28 bytes that hold 0xA5. */
+static void expect_frame_write_by(uint32_t edition, const char *what, const uint64_t *before, int field, uint64_t value, size_t record_len,
+    size_t frame_len, uint32_t status, const char *digits)
 {
     uint64_t record[20] = {0};
     uint8_t left[28], expected[28];
-    memcpy(record, place_record, sizeof place_record);
+    memcpy(record, before, GVZ_FRAME_VALUES * sizeof *before);
     record[field] = value;
     memset(left, 0xA5, sizeof left);
     memset(expected, 0xA5, sizeof expected);
     if (digits != NULL) {
         memcpy(expected, frame_of(digits), GVZ_FRAME_BYTES);
     }
-    expect_left(what, gvz_frame_write(record, record_len, left, frame_len), status, left, expected, sizeof left);
+    expect_left(what, gvz_frame_write(edition, record, record_len, left, frame_len), status, left, expected, sizeof left);
+}
+
+/* place_record by every edition. */
+static void expect_frame_write(const char *what, int field, uint64_t value, size_t record_len, size_t frame_len, uint32_t status,
+    const char *digits)
+{
+    for (int i = 0; i < NUMBERS; i++) {
+        expect_frame_write_by(EDITIONS[i], what, place_record, field, value, record_len, frame_len, status, digits);
+    }
 }
 
 static void test_frame_write(void)
 {
-    expect_frame_write("a place", GVZ_RECORD_TIME, 5, 18, 26, 0, PLACE);
-    expect_frame_write("identification 8", GVZ_RECORD_IDENTIFICATION, 8, 18, 26, GVZ_REFUSAL_IDENTIFICATION, NULL);
-    expect_frame_write("depth 1024", GVZ_RECORD_DEPTH, 1024, 18, 26, GVZ_REFUSAL_FIELD, NULL);
-    expect_frame_write("a broadcaster", GVZ_RECORD_BROADCASTER, 1, 18, 26, GVZ_REFUSAL_FIELD, NULL);
-    expect_frame_write("longitude 1801", GVZ_RECORD_LONGITUDE, 1801, 18, 26, GVZ_REFUSAL_OVER_LIMIT, NULL);
-    expect_frame_write("a buffer of 25, before the record", GVZ_RECORD_IDENTIFICATION, 8, 18, 25, GVZ_REFUSAL_WRONG_LENGTH, NULL);
-    expect_frame_write("a buffer of 27", GVZ_RECORD_TIME, 5, 18, 27, GVZ_REFUSAL_WRONG_LENGTH, NULL);
-    expect_frame_write("a record of 17", GVZ_RECORD_TIME, 5, 17, 26, GVZ_REFUSAL_WRONG_LENGTH, NULL);
-    expect_frame_write("a record of 19", GVZ_RECORD_TIME, 5, 19, 26, GVZ_REFUSAL_WRONG_LENGTH, NULL);
+    expect_frame_write("a place", GVZ_RECORD_TIME, 5, 19, 26, 0, PLACE);
+    expect_frame_write("identification 8", GVZ_RECORD_IDENTIFICATION, 8, 19, 26, GVZ_REFUSAL_IDENTIFICATION, NULL);
+    expect_frame_write("depth 1024", GVZ_RECORD_DEPTH, 1024, 19, 26, GVZ_REFUSAL_FIELD, NULL);
+    expect_frame_write("a broadcaster", GVZ_RECORD_BROADCASTER, 1, 19, 26, GVZ_REFUSAL_FIELD, NULL);
+    expect_frame_write("a region", GVZ_RECORD_REGION, 1, 19, 26, GVZ_REFUSAL_FIELD, NULL);
+    expect_frame_write("identification 4", GVZ_RECORD_IDENTIFICATION, 4, 19, 26, GVZ_REFUSAL_IDENTIFICATION, NULL);
+    expect_frame_write("longitude 1801", GVZ_RECORD_LONGITUDE, 1801, 19, 26, GVZ_REFUSAL_OVER_LIMIT, NULL);
+    expect_frame_write("a buffer of 25, before the record", GVZ_RECORD_IDENTIFICATION, 8, 19, 25, GVZ_REFUSAL_WRONG_LENGTH, NULL);
+    expect_frame_write("a buffer of 27", GVZ_RECORD_TIME, 5, 19, 27, GVZ_REFUSAL_WRONG_LENGTH, NULL);
+    expect_frame_write("a record of 18", GVZ_RECORD_TIME, 5, 18, 26, GVZ_REFUSAL_WRONG_LENGTH, NULL);
+    expect_frame_write("a record of 20", GVZ_RECORD_TIME, 5, 20, 26, GVZ_REFUSAL_WRONG_LENGTH, NULL);
+}
+
+/* safety_record with one field changed: its own edition answers this, and the first refuses the identification. */
+static void expect_safety_write(const char *what, int field, uint64_t value, uint32_t status, const char *digits)
+{
+    for (int i = 0; i < NUMBERS; i++) {
+        if (EDITIONS[i] == GVZ_EDITION_AREA_SAFETY) {
+            expect_frame_write_by(EDITIONS[i], what, safety_record, field, value, 19, 26, status, digits);
+        } else {
+            expect_frame_write_by(EDITIONS[i], what, safety_record, field, value, 19, 26, GVZ_REFUSAL_IDENTIFICATION, NULL);
+        }
+    }
+}
+
+static void test_safety_write(void)
+{
+    const uint64_t past = UINT64_C(1) << 57;
+    expect_safety_write("area safety", GVZ_RECORD_REGION, safety_record[GVZ_RECORD_REGION], 0, AREA_SAFETY);
+    expect_safety_write("region 2^57", GVZ_RECORD_REGION, past, GVZ_REFUSAL_FIELD, NULL);
+    expect_safety_write("the largest region", GVZ_RECORD_REGION, UINT64_MAX, GVZ_REFUSAL_FIELD, NULL);
+    expect_safety_write("a page", GVZ_RECORD_PAGE, 1, GVZ_REFUSAL_FIELD, NULL);
+    expect_safety_write("update 4", GVZ_RECORD_UPDATE, 4, GVZ_REFUSAL_FIELD, NULL);
+    for (uint64_t update = 0; update < 4; update++) {
+        uint64_t record[GVZ_FRAME_VALUES], again[GVZ_FRAME_VALUES];
+        uint8_t frame[GVZ_FRAME_BYTES];
+        memcpy(record, safety_record, sizeof record);
+        record[GVZ_RECORD_UPDATE] = update;
+        record[GVZ_RECORD_REGION] = past - 1;
+        expect("the largest region is written", gvz_frame_write(GVZ_EDITION_AREA_SAFETY, record, 19, frame, 26) == 0);
+        expect_left("and read", gvz_frame_read(GVZ_EDITION_AREA_SAFETY, frame, 26, again, 19), 0, again, record, sizeof record);
+    }
 }
 
 /* Which areas of a record are warned: those whose bit is 1 in `warned`, area 0 lowest. */
@@ -210,7 +310,7 @@ static void test_warned(void)
     record[GVZ_RECORD_AREAS] = 0;
     for (uint64_t identification = 4; identification < 8; identification++) {
         record[GVZ_RECORD_IDENTIFICATION] = identification;
-        expect_warned("no information, or undefined", record, 0);
+        expect_warned("no information, area safety, or undefined", record, 0);
     }
     expect_warned("a place", place_record, 0);
     memset(record, 0, sizeof record);
@@ -234,14 +334,23 @@ static double double_of(uint64_t bits)
 }
 
 /* Of 4 doubles that hold 0.5 the first 3 are left as `place`, if it is not NULL, and the rest as they were. */
-static void expect_report(const char *what, const uint64_t *record, size_t record_len, size_t place_len, uint32_t status,
-    const double *place)
+static void expect_report_by(uint32_t edition, const char *what, const uint64_t *record, size_t record_len, size_t place_len,
+    uint32_t status, const double *place)
 {
     double left[4] = {0.5, 0.5, 0.5, 0.5}, expected[4] = {0.5, 0.5, 0.5, 0.5};
     if (place != NULL) {
         memcpy(expected, place, GVZ_PLACE_VALUES * sizeof(double));
     }
-    expect_left(what, gvz_report(record, record_len, left, place_len), status, left, expected, sizeof left);
+    expect_left(what, gvz_report(edition, record, record_len, left, place_len), status, left, expected, sizeof left);
+}
+
+/* The same by every edition. */
+static void expect_report(const char *what, const uint64_t *record, size_t record_len, size_t place_len, uint32_t status,
+    const double *place)
+{
+    for (int i = 0; i < NUMBERS; i++) {
+        expect_report_by(EDITIONS[i], what, record, record_len, place_len, status, place);
+    }
 }
 
 static void test_report(void)
@@ -249,34 +358,49 @@ static void test_report(void)
     const double place[GVZ_PLACE_VALUES] = {-35.6, -139.7, 40.0}, minus_zero[GVZ_PLACE_VALUES] = {-0.0, -139.7, 40.0};
     uint64_t record[GVZ_FRAME_VALUES + 1] = {0};
 
-    expect_report("areas only", record, 18, 3, GVZ_REPORT_AREAS_ONLY << 8, NULL);
+    expect_report("areas only", record, 19, 3, GVZ_REPORT_AREAS_ONLY << 8, NULL);
     record[GVZ_RECORD_PAGE] = 1;
     record[GVZ_RECORD_KIND] = 1;
-    expect_report("a cancellation", record, 18, 3, GVZ_REPORT_CANCELLATION << 8, NULL);
+    expect_report("a cancellation", record, 19, 3, GVZ_REPORT_CANCELLATION << 8, NULL);
     memset(record, 0, sizeof record);
     record[GVZ_RECORD_IDENTIFICATION] = 7;
-    expect_report("nothing", record, 18, 3, GVZ_REPORT_NOTHING << 8, NULL);
+    expect_report("nothing", record, 19, 3, GVZ_REPORT_NOTHING << 8, NULL);
     record[GVZ_RECORD_UPDATE] = 1;
-    expect_report("an update where none is free", record, 18, 3, GVZ_REFUSAL_FIELD, NULL);
+    expect_report("an update where none is free", record, 19, 3, GVZ_REFUSAL_FIELD, NULL);
 
     memcpy(record, place_record, sizeof place_record);
-    expect_report("a place", record, 18, 3, GVZ_REPORT_PLACE << 8, place);
-    expect_report("a record of 17", record, 17, 3, GVZ_REFUSAL_WRONG_LENGTH, NULL);
-    expect_report("a record of 19", record, 19, 3, GVZ_REFUSAL_WRONG_LENGTH, NULL);
-    expect_report("a place of 2", record, 18, 2, GVZ_REFUSAL_WRONG_LENGTH, NULL);
-    expect_report("a place of 4", record, 18, 4, GVZ_REFUSAL_WRONG_LENGTH, NULL);
+    expect_report("a place", record, 19, 3, GVZ_REPORT_PLACE << 8, place);
+    expect_report("a record of 18", record, 18, 3, GVZ_REFUSAL_WRONG_LENGTH, NULL);
+    expect_report("a record of 20", record, 20, 3, GVZ_REFUSAL_WRONG_LENGTH, NULL);
+    expect_report("a place of 2", record, 19, 2, GVZ_REFUSAL_WRONG_LENGTH, NULL);
+    expect_report("a place of 4", record, 19, 4, GVZ_REFUSAL_WRONG_LENGTH, NULL);
     record[GVZ_RECORD_LATITUDE] = 0;
-    expect_report("a southern 0", record, 18, 3, GVZ_REPORT_PLACE << 8, minus_zero);
+    expect_report("a southern 0", record, 19, 3, GVZ_REPORT_PLACE << 8, minus_zero);
     record[GVZ_RECORD_LATITUDE] = 901;
-    expect_report("latitude 901", record, 18, 3, GVZ_REFUSAL_OVER_LIMIT, NULL);
-    record[GVZ_RECORD_IDENTIFICATION] = 5;
-    expect_report("identification 5", record, 18, 3, GVZ_REFUSAL_IDENTIFICATION, NULL);
+    expect_report("latitude 901", record, 19, 3, GVZ_REFUSAL_OVER_LIMIT, NULL);
+    record[GVZ_RECORD_IDENTIFICATION] = 4;
+    expect_report("identification 4", record, 19, 3, GVZ_REFUSAL_IDENTIFICATION, NULL);
 
     /* the proofs know one NaN, so that its bits are looked at here */
     double no_numbers[GVZ_PLACE_VALUES] = {double_of(0x7FF8000000000001), double_of(0xFFF0000000000002), double_of(0x7FF4000000000003)};
     double left[GVZ_PLACE_VALUES];
     memcpy(left, no_numbers, sizeof left);
-    expect_left("a refusal leaves the bits of a NaN", gvz_report(record, 18, left, 3), GVZ_REFUSAL_IDENTIFICATION, left, no_numbers, sizeof left);
+    expect_left("a refusal leaves the bits of a NaN", gvz_report(GVZ_EDITION_FIRST, record, 19, left, 3), GVZ_REFUSAL_IDENTIFICATION, left,
+        no_numbers, sizeof left);
+}
+
+static void test_safety_report(void)
+{
+    uint64_t record[GVZ_FRAME_VALUES];
+    for (int i = 0; i < NUMBERS; i++) {
+        int has = EDITIONS[i] == GVZ_EDITION_AREA_SAFETY;
+        memcpy(record, safety_record, sizeof record);
+        expect_report_by(EDITIONS[i], "area safety", record, 19, 3, has ? GVZ_REPORT_AREA_SAFETY << 8 : GVZ_REFUSAL_IDENTIFICATION, NULL);
+        record[GVZ_RECORD_IDENTIFICATION] = GVZ_IDENTIFICATION_AREA_SAFETY_TEST;
+        expect_report_by(EDITIONS[i], "its test", record, 19, 3, has ? GVZ_REPORT_AREA_SAFETY << 8 : GVZ_REFUSAL_IDENTIFICATION, NULL);
+        record[GVZ_RECORD_PAGE] = 1;
+        expect_report_by(EDITIONS[i], "with a page", record, 19, 3, has ? GVZ_REFUSAL_FIELD : GVZ_REFUSAL_IDENTIFICATION, NULL);
+    }
 }
 
 static void expect_desk(const char *what, double latitude, double longitude, double depth, size_t fields_len, uint32_t status,
@@ -308,12 +432,33 @@ static void test_desk(void)
 
 /* ---- Following the update number, and two tuners */
 
+static void expect_follow_by(uint32_t edition, const char *what, uint32_t state, const char *digits, size_t frame_len, uint32_t number,
+    uint32_t event, uint32_t next)
+{
+    uint32_t status = gvz_follow(edition, state, frame_of(digits), frame_len);
+    expect(what, status == number + (event << 8) + (next << 16) && GVZ_REFUSAL(status) == number && GVZ_EVENT(status) == event
+        && GVZ_STATE(status) == next);
+}
+
+/* The same by every edition. */
 static void expect_follow(const char *what, uint32_t state, const char *digits, size_t frame_len, uint32_t number, uint32_t event,
     uint32_t next)
 {
-    uint32_t status = gvz_follow(state, frame_of(digits), frame_len);
-    expect(what, status == number + (event << 8) + (next << 16) && GVZ_REFUSAL(status) == number && GVZ_EVENT(status) == event
-        && GVZ_STATE(status) == next);
+    for (int i = 0; i < NUMBERS; i++) {
+        expect_follow_by(EDITIONS[i], what, state, digits, frame_len, number, event, next);
+    }
+}
+
+/* Area safety information: its own edition makes this of it, and the first refuses it and keeps the state. */
+static void expect_safety_follow(const char *what, uint32_t state, const char *digits, uint32_t event, uint32_t next)
+{
+    for (int i = 0; i < NUMBERS; i++) {
+        if (EDITIONS[i] == GVZ_EDITION_AREA_SAFETY) {
+            expect_follow_by(EDITIONS[i], what, state, digits, 26, 0, event, next);
+        } else {
+            expect_follow_by(EDITIONS[i], what, state, digits, 26, GVZ_REFUSAL_IDENTIFICATION, GVZ_EVENT_REFUSED, state);
+        }
+    }
 }
 
 static void test_follow(void)
@@ -330,15 +475,47 @@ static void test_follow(void)
     expect_follow("refused", GVZ_STATE_TEST(3u), NINE_HITS, 26, GVZ_REFUSAL_BEYOND_REPAIR, GVZ_EVENT_REFUSED, GVZ_STATE_TEST(3u));
     expect_follow("5 bytes", GVZ_STATE_REAL(2u), ALL_AREAS, 5, GVZ_REFUSAL_WRONG_LENGTH, GVZ_EVENT_REFUSED, GVZ_STATE_REAL(2u));
     expect_follow("a state of no number", 3u, ALL_AREAS, 26, 0, GVZ_EVENT_BEGINS, GVZ_STATE_REAL(0u));
+    expect_follow("the number after the last state", 20u, NINE_HITS, 26, GVZ_REFUSAL_BEYOND_REPAIR, GVZ_EVENT_REFUSED, GVZ_STATE_QUIET);
     expect_follow("a large state", 0xFFFFFFFFu, NINE_HITS, 26, GVZ_REFUSAL_BEYOND_REPAIR, GVZ_EVENT_REFUSED, GVZ_STATE_QUIET);
 }
 
+static void test_safety_follow(void)
+{
+    /* AREA_SAFETY has update 0, AREA_SAFETY_TEST update 1. */
+    expect_safety_follow("begins", GVZ_STATE_QUIET, AREA_SAFETY, GVZ_EVENT_BEGINS, GVZ_STATE_SAFETY(0u));
+    expect_safety_follow("a test begins", GVZ_STATE_QUIET, AREA_SAFETY_TEST, GVZ_EVENT_BEGINS, GVZ_STATE_SAFETY_TEST(1u));
+    expect_safety_follow("same", GVZ_STATE_SAFETY(0u), AREA_SAFETY, GVZ_EVENT_SAME, GVZ_STATE_SAFETY(0u));
+    expect_safety_follow("changed", GVZ_STATE_SAFETY(3u), AREA_SAFETY, GVZ_EVENT_CHANGED, GVZ_STATE_SAFETY(0u));
+    expect_safety_follow("skipped", GVZ_STATE_SAFETY_TEST(3u), AREA_SAFETY_TEST, GVZ_EVENT_SKIPPED, GVZ_STATE_SAFETY_TEST(1u));
+    expect_safety_follow("after its test", GVZ_STATE_SAFETY_TEST(0u), AREA_SAFETY, GVZ_EVENT_BEGINS, GVZ_STATE_SAFETY(0u));
+    expect_safety_follow("the test after it", GVZ_STATE_SAFETY(1u), AREA_SAFETY_TEST, GVZ_EVENT_BEGINS, GVZ_STATE_SAFETY_TEST(1u));
+    expect_safety_follow("after a warning", GVZ_STATE_REAL(0u), AREA_SAFETY, GVZ_EVENT_BEGINS, GVZ_STATE_SAFETY(0u));
+    expect_safety_follow("after a test", GVZ_STATE_TEST(1u), AREA_SAFETY_TEST, GVZ_EVENT_BEGINS, GVZ_STATE_SAFETY_TEST(1u));
+    expect_follow("a warning after it", GVZ_STATE_SAFETY(0u), ALL_AREAS, 26, 0, GVZ_EVENT_BEGINS, GVZ_STATE_REAL(0u));
+    expect_follow("a test after its test", GVZ_STATE_SAFETY_TEST(1u), PLACE, 26, 0, GVZ_EVENT_BEGINS, GVZ_STATE_TEST(1u));
+    for (uint32_t update = 0; update < 4; update++) {
+        expect_follow("ended", GVZ_STATE_SAFETY(update), NO_INFORMATION, 26, 0, GVZ_EVENT_ENDED, GVZ_STATE_QUIET);
+        expect_follow("the test ended", GVZ_STATE_SAFETY_TEST(update), NO_INFORMATION, 26, 0, GVZ_EVENT_ENDED, GVZ_STATE_QUIET);
+        expect_follow("refused", GVZ_STATE_SAFETY_TEST(update), NINE_HITS, 26, GVZ_REFUSAL_BEYOND_REPAIR, GVZ_EVENT_REFUSED,
+            GVZ_STATE_SAFETY_TEST(update));
+    }
+}
+
+static void expect_capture_by(uint32_t edition, const char *what, const uint8_t *main_capture, size_t main_len,
+    const uint8_t *spare_capture, size_t spare_len, uint64_t n, uint32_t main_number, uint32_t spare_number, uint32_t source)
+{
+    uint32_t numbers = gvz_capture_numbers(edition, main_capture, main_len, spare_capture, spare_len, n);
+    expect(what, GVZ_MAIN_REFUSAL(numbers) == main_number && GVZ_SPARE_REFUSAL(numbers) == spare_number
+        && gvz_capture_source(edition, main_capture, main_len, spare_capture, spare_len, n) == source);
+}
+
+/* The same by every edition. */
 static void expect_capture(const char *what, const uint8_t *main_capture, size_t main_len, const uint8_t *spare_capture, size_t spare_len,
     uint64_t n, uint32_t main_number, uint32_t spare_number, uint32_t source)
 {
-    uint32_t numbers = gvz_capture_numbers(main_capture, main_len, spare_capture, spare_len, n);
-    expect(what, GVZ_MAIN_REFUSAL(numbers) == main_number && GVZ_SPARE_REFUSAL(numbers) == spare_number
-        && gvz_capture_source(main_capture, main_len, spare_capture, spare_len, n) == source);
+    for (int i = 0; i < NUMBERS; i++) {
+        expect_capture_by(EDITIONS[i], what, main_capture, main_len, spare_capture, spare_len, n, main_number, spare_number, source);
+    }
 }
 
 static void test_captures(void)
@@ -359,6 +536,21 @@ static void test_captures(void)
     expect_capture("26 n past 64 bits", main_capture, 78, spare_capture, 78, UINT64_C(1) << 63, GVZ_REFUSAL_WRONG_LENGTH, GVZ_REFUSAL_WRONG_LENGTH,
         GVZ_TUNER_NEITHER);
     expect_capture("the largest n", main_capture, 78, spare_capture, 78, UINT64_MAX, GVZ_REFUSAL_WRONG_LENGTH, GVZ_REFUSAL_WRONG_LENGTH, GVZ_TUNER_NEITHER);
+}
+
+static void test_safety_captures(void)
+{
+    uint8_t safety[GVZ_FRAME_BYTES], place[GVZ_FRAME_BYTES];
+    memcpy(safety, frame_of(AREA_SAFETY), sizeof safety);
+    memcpy(place, frame_of(PLACE), sizeof place);
+    for (int i = 0; i < NUMBERS; i++) {
+        int has = EDITIONS[i] == GVZ_EDITION_AREA_SAFETY;
+        uint32_t number = has ? 0 : GVZ_REFUSAL_IDENTIFICATION;
+        expect_capture_by(EDITIONS[i], "main's", safety, 26, place, 26, 0, number, 0, has ? GVZ_TUNER_MAIN : GVZ_TUNER_SPARE);
+        expect_capture_by(EDITIONS[i], "spare's", place, 26, safety, 26, 0, 0, number, GVZ_TUNER_MAIN);
+        expect_capture_by(EDITIONS[i], "spare's alone", place, 25, safety, 26, 0, GVZ_REFUSAL_WRONG_LENGTH, number,
+            has ? GVZ_TUNER_SPARE : GVZ_TUNER_NEITHER);
+    }
 }
 
 /* ---- The cable header */
@@ -470,12 +662,21 @@ static void test_header_write(void)
     expect_header_write("a record of 146", GVZ_HEADER_FORM, 1, 146, 188, GVZ_REFUSAL_WRONG_LENGTH, NULL);
 }
 
-static void expect_lay_in(const char *what, const uint8_t *before, size_t header_len, const char *digits, size_t frame_len,
-    uint32_t status, const uint8_t *after)
+static void expect_lay_in_by(uint32_t edition, const char *what, const uint8_t *before, size_t header_len, const char *digits,
+    size_t frame_len, uint32_t status, const uint8_t *after)
 {
     uint8_t header[GVZ_CABLE_BYTES];
     memcpy(header, before, sizeof header);
-    expect_left(what, gvz_lay_in(header, header_len, frame_of(digits), frame_len), status, header, after, sizeof header);
+    expect_left(what, gvz_lay_in(edition, header, header_len, frame_of(digits), frame_len), status, header, after, sizeof header);
+}
+
+/* The same by every edition. */
+static void expect_lay_in(const char *what, const uint8_t *before, size_t header_len, const char *digits, size_t frame_len,
+    uint32_t status, const uint8_t *after)
+{
+    for (int i = 0; i < NUMBERS; i++) {
+        expect_lay_in_by(EDITIONS[i], what, before, header_len, digits, frame_len, status, after);
+    }
 }
 
 static void expect_take_out(const char *what, const uint8_t *before, size_t header_len, uint32_t status, const uint8_t *after)
@@ -509,6 +710,23 @@ static void test_laying(void)
     expect_take_out("a header of 187", laid, 187, GVZ_REFUSAL_WRONG_LENGTH, laid);
 }
 
+static void test_safety_laying(void)
+{
+    uint8_t empty[GVZ_CABLE_BYTES], laid[GVZ_CABLE_BYTES];
+    model_header(empty, 0xE760A571);
+    model_header(laid, 0);
+    memcpy(laid + 99, frame_of(AREA_SAFETY), 25);
+    laid[124] = 0x0F;
+    uint32_t crc = gvz_crc32(laid + 4, 180);
+    for (int i = 0; i < 4; i++) {
+        laid[184 + i] = (uint8_t)(crc >> (24 - 8 * i));
+    }
+    for (int i = 0; i < NUMBERS; i++) {
+        int has = EDITIONS[i] == GVZ_EDITION_AREA_SAFETY;
+        expect_lay_in_by(EDITIONS[i], "area safety", empty, 188, AREA_SAFETY, 26, has ? 0 : GVZ_REFUSAL_IDENTIFICATION, has ? laid : empty);
+    }
+}
+
 static void test_crc32(void)
 {
     static const uint8_t digits[] = "123456789";
@@ -523,7 +741,7 @@ static void test_crc32(void)
 
 /* ---- NULL beside the length 0, as an empty vector hands it over */
 
-static void test_null(void)
+static void test_null(uint32_t edition)
 {
     uint8_t word[GVZ_FRAME_BYTES] = {0}, header[GVZ_CABLE_BYTES];
     const uint8_t *frame = frame_of(ALL_AREAS);
@@ -535,19 +753,24 @@ static void test_null(void)
 
     expect("no frame to repair", gvz_repair(NULL, 0, word, 26) == wrong_length && gvz_repair_register(NULL, 0, word, 26) == wrong_length);
     expect("no word", gvz_repair(frame, 26, NULL, 0) == wrong_length && gvz_repair_register(frame, 26, NULL, 0) == wrong_length);
-    expect("no frame to read", gvz_frame_read(NULL, 0, record, 18) == wrong_length && gvz_frame_read(frame, 26, NULL, 0) == wrong_length);
-    expect("nothing at all", gvz_frame_read(NULL, 0, NULL, 0) == wrong_length);
-    expect("no record to write", gvz_frame_write(NULL, 0, word, 26) == wrong_length && gvz_frame_write(record, 18, NULL, 0) == wrong_length);
+    expect("no frame to read", gvz_frame_read(edition, NULL, 0, record, 19) == wrong_length
+            && gvz_frame_read(edition, frame, 26, NULL, 0) == wrong_length);
+    expect("nothing at all", gvz_frame_read(edition, NULL, 0, NULL, 0) == wrong_length);
+    expect("no record to write", gvz_frame_write(edition, NULL, 0, word, 26) == wrong_length
+            && gvz_frame_write(edition, record, 19, NULL, 0) == wrong_length);
     expect("no record to ask", gvz_warned(NULL, 0, 15) == wrong_length);
-    expect("no record to report", gvz_report(NULL, 0, place, 3) == wrong_length && gvz_report(record, 18, NULL, 0) == wrong_length);
+    expect("no record to report", gvz_report(edition, NULL, 0, place, 3) == wrong_length
+            && gvz_report(edition, record, 19, NULL, 0) == wrong_length);
     expect("no fields", gvz_desk(35.6, 139.7, 40.0, NULL, 0) == wrong_length);
-    expect("no frame to follow", gvz_follow(GVZ_STATE_REAL(2u), NULL, 0) == 1 + (GVZ_EVENT_REFUSED << 8) + (GVZ_STATE_REAL(2u) << 16));
-    expect("no main capture", gvz_capture_source(NULL, 0, frame, 26, 0) == GVZ_TUNER_SPARE);
-    expect("no spare capture", gvz_capture_source(frame, 26, NULL, 0, 0) == GVZ_TUNER_MAIN);
-    expect("no capture", gvz_capture_source(NULL, 0, NULL, 0, 0) == GVZ_TUNER_NEITHER && gvz_capture_numbers(NULL, 0, NULL, 0, 0) == 257);
+    expect("no frame to follow", gvz_follow(edition, GVZ_STATE_REAL(2u), NULL, 0) == 1 + (GVZ_EVENT_REFUSED << 8) + (GVZ_STATE_REAL(2u) << 16));
+    expect("no main capture", gvz_capture_source(edition, NULL, 0, frame, 26, 0) == GVZ_TUNER_SPARE);
+    expect("no spare capture", gvz_capture_source(edition, frame, 26, NULL, 0, 0) == GVZ_TUNER_MAIN);
+    expect("no capture", gvz_capture_source(edition, NULL, 0, NULL, 0, 0) == GVZ_TUNER_NEITHER
+            && gvz_capture_numbers(edition, NULL, 0, NULL, 0, 0) == 257);
     expect("no header to read", gvz_header_read(NULL, 0, values, 145) == wrong_length && gvz_header_read(header, 188, NULL, 0) == wrong_length);
     expect("no header to write", gvz_header_write(NULL, 0, header, 188) == wrong_length && gvz_header_write(values, 145, NULL, 0) == wrong_length);
-    expect("no header to lay into", gvz_lay_in(NULL, 0, frame, 26) == wrong_length && gvz_lay_in(header, 188, NULL, 0) == wrong_length);
+    expect("no header to lay into", gvz_lay_in(edition, NULL, 0, frame, 26) == wrong_length
+            && gvz_lay_in(edition, header, 188, NULL, 0) == wrong_length);
     expect("no header to take out of", gvz_take_out(NULL, 0) == wrong_length);
     expect("no bytes", gvz_crc32(NULL, 0) == 0xFFFFFFFF);
 }
@@ -556,17 +779,25 @@ int main(void)
 {
     test_repair();
     test_frame_read();
+    test_safety_read();
     test_frame_write();
+    test_safety_write();
     test_warned();
     test_report();
+    test_safety_report();
     test_desk();
     test_follow();
+    test_safety_follow();
     test_captures();
+    test_safety_captures();
     test_header_read();
     test_header_write();
     test_laying();
+    test_safety_laying();
     test_crc32();
-    test_null();
+    for (int i = 0; i < NUMBERS; i++) {
+        test_null(EDITIONS[i]);
+    }
     if (failures == 0) {
         printf("c: all answers are as expected\n");
     }
