@@ -1,5 +1,8 @@
-/* Reads one frame from standard input and says what it warns of: the areas by number, or the place. */
+/* Reads one frame from standard input and says what it warns of: the areas by number, the place, or the region. The frame is judged by the first
+ * edition, or with the argument area-safety by that one. */
+#include <inttypes.h>
 #include <stdio.h>
+#include <string.h>
 
 #include "gvozdyana.h"
 
@@ -15,13 +18,14 @@ static void print_areas(const uint64_t *record)
     printf("\n");
 }
 
-int main(void)
+int main(int argc, char **argv)
 {
+    uint32_t edition = argc > 1 && strcmp(argv[1], "area-safety") == 0 ? GVZ_EDITION_AREA_SAFETY : GVZ_EDITION_FIRST;
     uint8_t frame[GVZ_FRAME_BYTES];
     uint64_t record[GVZ_FRAME_VALUES];
     double place[GVZ_PLACE_VALUES];
     size_t got = fread(frame, 1, sizeof frame, stdin);
-    uint32_t status = gvz_frame_read(frame, got, record, GVZ_FRAME_VALUES);
+    uint32_t status = gvz_frame_read(edition, frame, got, record, GVZ_FRAME_VALUES);
     if (GVZ_REFUSAL(status) != GVZ_REFUSAL_NONE) {
         printf("refused %u\n", (unsigned)GVZ_REFUSAL(status));
         return 1;
@@ -29,7 +33,7 @@ int main(void)
     printf("identification %u, update %u, %u places repaired, %u synchronising bits differed\n",
         (unsigned)record[GVZ_RECORD_IDENTIFICATION], (unsigned)record[GVZ_RECORD_UPDATE], (unsigned)GVZ_REPAIRED(status),
         (unsigned)GVZ_SYNC_BITS(status));
-    status = gvz_report(record, GVZ_FRAME_VALUES, place, GVZ_PLACE_VALUES);
+    status = gvz_report(edition, record, GVZ_FRAME_VALUES, place, GVZ_PLACE_VALUES);
     if (GVZ_REFUSAL(status) != GVZ_REFUSAL_NONE) {
         printf("refused %u\n", (unsigned)GVZ_REFUSAL(status));
         return 1;
@@ -44,6 +48,9 @@ int main(void)
         break;
     case GVZ_REPORT_AREAS_ONLY:
         print_areas(record);
+        break;
+    case GVZ_REPORT_AREA_SAFETY:
+        printf("area safety information for region 0x%015" PRIx64 "\n", record[GVZ_RECORD_REGION]);
         break;
     case GVZ_REPORT_NOTHING:
         printf("no information from broadcaster %u\n", (unsigned)record[GVZ_RECORD_BROADCASTER]);
