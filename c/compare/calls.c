@@ -5,6 +5,13 @@
 
 #include <string.h>
 
+/* The first edition. Before 0.4.0 there was no other, and no function was told one. */
+#if GVZ_VERSION_MAJOR == 0 && GVZ_VERSION_MINOR < 4
+#define BY_FIRST
+#else
+#define BY_FIRST GVZ_EDITION_FIRST,
+#endif
+
 #define EACH(n, call) \
     uint32_t sum = 0; \
     for (int i = 0; i < (n); i++) { \
@@ -15,18 +22,18 @@
 static uint32_t frame_read(struct inputs *in)
 {
     uint64_t record[GVZ_FRAME_VALUES];
-    EACH(RECORDS, gvz_frame_read(in->frames[i], 26, record, GVZ_FRAME_VALUES));
+    EACH(RECORDS, gvz_frame_read(BY_FIRST in->frames[i], 26, record, GVZ_FRAME_VALUES));
 }
 
 static uint32_t frame_write(struct inputs *in)
 {
-    EACH(RECORDS, gvz_frame_write(in->records[i], GVZ_FRAME_VALUES, in->frames[i], 26));
+    EACH(RECORDS, gvz_frame_write(BY_FIRST in->records[i], GVZ_FRAME_VALUES, in->frames[i], 26));
 }
 
 static uint32_t report(struct inputs *in)
 {
     double place[3];
-    EACH(RECORDS, gvz_report(in->records[i], GVZ_FRAME_VALUES, place, 3));
+    EACH(RECORDS, gvz_report(BY_FIRST in->records[i], GVZ_FRAME_VALUES, place, 3));
 }
 
 static uint32_t warned(struct inputs *in)
@@ -36,7 +43,7 @@ static uint32_t warned(struct inputs *in)
 
 static uint32_t follow(struct inputs *in)
 {
-    EACH(RECORDS, gvz_follow(0, in->frames[i], 26));
+    EACH(RECORDS, gvz_follow(BY_FIRST 0, in->frames[i], 26));
 }
 
 static uint32_t repair(struct inputs *in)
@@ -60,7 +67,7 @@ static uint32_t lay_in(struct inputs *in)
 {
     uint8_t header[188];
     memcpy(header, in->header, 188);
-    EACH(HEADERS, gvz_lay_in(header, 188, in->frames[i], 26));
+    EACH(HEADERS, gvz_lay_in(BY_FIRST header, 188, in->frames[i], 26));
 }
 
 static uint32_t take_out(struct inputs *in)

@@ -4,7 +4,8 @@
 
 #include <stdint.h>
 
-enum { RECORDS = 500, HEADERS = 100, VALUES = 18, HEADER_VALUES = 145 };
+/* VALUES is as many as any version's record has; each takes its first GVZ_FRAME_VALUES. */
+enum { RECORDS = 500, HEADERS = 100, VALUES = 19, HEADER_VALUES = 145 };
 
 struct inputs {
     uint64_t records[RECORDS][VALUES];
