@@ -313,7 +313,7 @@ identification 13, which is 5 in three bits | 0*2 13 0*16 | 6:ff*26. | 6:ff*26.
 const SAFETY_FRAMES: &str = "
 1af705123456789abcdef01234563dee663d35a7819a35d06b00 | 6 .. | 0 0*2 5 0 91a2b3c 0*13 9abcdef0123456 | area safety
 1af70500000000000000000000004f521e5692041479a68c6810 | 6 .. | 0 0*2 5 0*16 | identification 5, all else zero
-1af71500000001000000000000001d6a7918b34f91c2e858c1b0 | 6 .. | 0 0*2 5 2 0*14 100000000000000 | identification 5, of the region B55 alone, where others have the page
+1af71500000001000000000000001d6a7918b34f91c2e858c1b0 | 6 .. | 0 0*2 5 2 0*14 100000000000000 | identification 5, of the region B55 alone
 1af7150000000000000000000001c3a96c33089947f421c8f7a0 | 6 .. | 0 0*2 5 2 0*14 1 | identification 5, of the region B111 alone
 1af71efffffffffffffffffffffffbb60756ba98197b6583d440 | 6 .. | 0 0*2 6 3 7fffffff 0*13 1ffffffffffffff | identification 6, all ones
 e508952468acf00000000000000004eb1eb084b6b3c48181f5b0 | 6 .. | 0 1*2 5 2 12345678 0*14 | identification 5, pattern 1 with B0

@@ -131,7 +131,7 @@ impl Case {
         self.numbers[2] = number;
         self.edition = match number {
             FIRST => String::new(),
-            AREA_SAFETY => ", area safety".to_owned(),
+            AREA_SAFETY => ", area safety edition".to_owned(),
             _ => format!(", edition {number}"),
         };
         self
