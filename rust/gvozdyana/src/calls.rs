@@ -1,7 +1,7 @@
 //! The exported functions as the archive has them, over numbers and slices. Each but [`capture_source`], [`capture_numbers`] and [`crc32`], which
 //! refuse nothing, returns a status: the refusal's number in the low 8 bits, 0 where nothing was refused, and above them what else it tells.
-//! A refusal leaves every buffer as it was, and a buffer of another length than the one named is refusal 1. The edition is a number: 0 the first, 1 area
-//! safety, and any other is taken for the first. The other modules say the same with types.
+//! A refusal leaves every buffer as it was, and a buffer of another length than the one named is refusal 1. The edition is a number: 0 the first, 1
+//! area safety, and any other is taken for the first. The other modules say the same with types.
 
 mod archive {
     extern "C" {

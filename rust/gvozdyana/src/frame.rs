@@ -41,7 +41,8 @@ macro_rules! record {
 record! {
     reference, "1 bit: B0, the differential reference, carried as it stands.";
     pattern, "1 bit: 0 for the pattern 0011010111101110 in B1 to B16, 1 for its complement. Received bits may differ from it in up to three places.";
-    identification, "3 bits: 0 to 3 are the numbers of an [`Identification`], 5 and 6 of a [`SafetyIdentification`], 7 is no information. 4 is undefined, and refused; so are 5 and 6 in the first edition.";
+    identification, "3 bits: 0 to 3 are the numbers of an [`Identification`], 5 and 6 of a [`SafetyIdentification`], 7 is no information. 4 is undefined, \
+        and refused; so are 5 and 6 in the first edition.";
     update, "2 bits, as `time` of identification 0 to 3, 5 and 6; 0 for 7, although its frame holds ones there. It goes 0, 1, 2, 3 and back to 0, so that the greater one is not the newer one ([`State::follow`](crate::follower::State::follow)).";
     time, "31 bits: the current time, a plain number that is carried as it stands.";
     page, "1 bit: 0 for areas, 1 for a place or a cancellation; identification 0 to 3 alone.";

@@ -1,5 +1,5 @@
-//! Every function with empty slices, one after another and all at once: refusal 1, or what document 01 says, and nothing written elsewhere; whatever the
-//! edition.
+//! Every function with empty slices, one after another and all at once: refusal 1, or what document 01 says, and nothing written elsewhere; whatever
+//! the edition.
 use gvozdyana::frame::{write, Record};
 use gvozdyana::header::{self, Header};
 use gvozdyana::{calls, Edition};

@@ -1,5 +1,5 @@
-//! Frames read and records written, by the proved version and by the plain one, in both editions. What is accepted is also held to what was sent, and a
-//! frame made with faults to the first of them.
+//! Frames read and records written, by the proved version and by the plain one, in both editions. What is accepted is also held to what was sent, and
+//! a frame made with faults to the first of them.
 mod common;
 use common::{
     edition_number, edition_of, for_each_seed, frames, hex, length, numbers, Case, EDITIONS,

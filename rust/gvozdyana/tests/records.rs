@@ -1,4 +1,5 @@
-//! Records made of what is meant: what they hold, that the writer takes them exactly where the numbers fit, and what is read of them, in both editions.
+//! Records made of what is meant: what they hold, that the writer takes them exactly where the numbers fit, and what is read of them, in both
+//! editions.
 mod common;
 use common::{for_each_seed, EDITIONS};
 use gvozdyana::follower::{Event, State, Update};
