@@ -1,5 +1,5 @@
 //! Writes what the test programs are run on and have to answer, `crates/NAME/stdin` and `stdout`, the list of their cases, `cases.txt`, and the output of the
-//! programs that read and list frames; the two of the area safety edition are run on the inputs of two of the first.
+//! programs that read frames and of the listing of the area safety edition, which is run on the frames of test_list_samples.
 use std::path::Path;
 
 fn main() -> std::io::Result<()> {

@@ -1,4 +1,4 @@
-//! What is stored of the test programs, and of the programs that read and list frames, is what the plain version makes now.
+//! What is stored of the test programs, of those that read frames, and of the listing of the area safety edition is what the plain version makes now.
 use std::path::{Path, PathBuf};
 
 fn here() -> PathBuf {
