@@ -1,5 +1,6 @@
 -- The numbers of states, events and tuners. Assumes nothing.
-use mathlib.Core.Path.{_≡_, _∙_, sym, ap}
+use mathlib.Core.Path.{_≡_, refl, _∙_, sym, ap}
+use mathlib.Core.List.{[], _∷_}
 use Prim.Native.Nat.{ℕ, _+_, _*_, _/_, _%_, _≤_, _<_}
 use native.Mathlib.Omega.{arith}
 use borrow.Author.Tests.{le-leb, lt-leb}
@@ -13,6 +14,10 @@ use Rattle.follower.specs.declared.Follower.the-variants.{Quiet, Active}
 use Rattle.capture.specs.declared.Tuner.{Tuner}
 use Rattle.abi.specs.Status.{statusOf}
 use Rattle.abi_receiver.specs.Receiver.{stateNumber, stateOf, eventCase, tunerCase}
+
+-- the numbers that the header file gives, each with the update number 0
+as-declared : stateNumber (Active Real 0) ∷ stateNumber (Active Test 0) ∷ stateNumber (Active Safety 0) ∷ stateNumber (Active SafetyTest 0) ∷ [] ≡ 4 ∷ 8 ∷ 12 ∷ 16 ∷ []
+as-declared = refl
 
 pub kind-small : (k : Kind) → kindNumber k ≤ 4
 kind-small Real = omega arith

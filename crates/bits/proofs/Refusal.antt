@@ -4,10 +4,10 @@ use mathlib.Core.Path.{_≡_, refl, sym, ap, _∙_}
 use mathlib.Core.Bool.{Bool, true, false, cond, and-eq-true-iff, not, _||_, _&&_, true≢false}
 use mathlib.Core.Logic.{_≢_}
 use mathlib.Core.List.{List, [], _∷_, _++_}
-use Prim.Native.Nat.{ℕ, _<_}
+use Prim.Native.Nat.{ℕ, _≤_, _<_}
 use native.Mathlib.Omega.{arith}
-use lib.Dec.{eqb, ltb}
-use borrow.Author.Tests.{ltb-true, ne-eqb, eqb-false, not-true}
+use lib.Dec.{eqb, ltb, leb}
+use borrow.Author.Tests.{ltb-true, leb-true, ne-eqb, eqb-false, not-true}
 use Rattle.bits.specs.Refusal.{firstRefusal, orElse, NoneGiven, GivenFirst, numbered}
 
 -- two refusals are given: the answer is the first one's
@@ -130,3 +130,14 @@ none-append ((n, given) ∷ ts) us h k = (h .0, none-append ts us (h .1) k)
 pub none-split : (ts us : List (ℕ × Bool)) → NoneGiven (ts ++ us) → NoneGiven ts × NoneGiven us
 none-split [] us h = (tt, h)
 none-split ((n, given) ∷ ts) us h = let r = none-split ts us (h .1) in ((h .0, r .0), r .1)
+
+-- every number of a table is at most m
+abbrev pub atMost : ℕ → List (ℕ × Bool) → Bool
+atMost m [] = true
+atMost m ((n, given) ∷ ts) = leb n m && atMost m ts
+
+pub refusal-most : (m : ℕ) (ts : List (ℕ × Bool)) → atMost m ts ≡ true → firstRefusal ts ≤ m
+unfolding firstRefusal
+refusal-most m [] h = omega arith
+refusal-most m ((n, true) ∷ ts) h = leb-true n m (and-eq-true-iff (leb n m) (atMost m ts) .0 h .0)
+refusal-most m ((n, false) ∷ ts) h = refusal-most m ts (and-eq-true-iff (leb n m) (atMost m ts) .0 h .1)

@@ -12,7 +12,7 @@ use Rattle.frame.specs.Promises.{NotSafety}
 use Rattle.frame.specs.declared.Edition.{Edition}
 use Rattle.frame.specs.declared.Verdict.{Verdict}
 use Rattle.frame.proofs.Editions.{editions}
-use Rattle.capture.specs.Capture.{partAt, numberAt, bytesFrom, frameAt}
+use Rattle.capture.specs.Capture.{partAt, numberAt, sourceOf, bytesFrom, frameAt}
 use Rattle.capture.specs.Promises.{endToEnd, Whole, Tuners}
 use Rattle.capture.specs.declared.Tuner.{Tuner}
 use Rattle.capture.proofs.Choice.{number-within, number-past, accepted-part, source-main, source-spare, source-neither, Choice, by-main, by-spare, by-neither, choice}
@@ -75,6 +75,11 @@ module _ (ed : Edition) where
       let same : frameRefusal ed (partAt c n) ≡ frameRefusal other (partAt c n) = ap (λ (v : Verdict). v .number) (editions .frame-alike ed other (partAt c n) h .judged) in
       rw same
 
+  frame-alike : (other : Edition) (main spare : List ℕ) (n : ℕ) → NotSafety (identificationIn (repairOf (partAt main n) .word))
+      → NotSafety (identificationIn (repairOf (partAt spare n) .word)) → frameAt ed main spare n ≡ frameAt other main spare n
+  unfolding sourceOf
+  frame-alike other main spare n m s = rw (alike other main n m, alike other spare n s)
+
   pub tuners : Tuners ed
   tuners =
       record {
@@ -87,4 +92,5 @@ module _ (ed : Edition) where
         empty-only = empty-only;
         accepted = accepted;
         alike = alike;
+        frame-alike = frame-alike;
       }

@@ -39,3 +39,5 @@ pub record Tuners (ed : Edition) : Type 0 where
   pub accepted : (main spare : List ℕ) (n : ℕ) → frameAt ed main spare n ≢ [] → (length (frameAt ed main spare n) ≡ 26) × (frameRefusal ed (frameAt ed main spare n) ≡ 0)
   -- which edition is named does not matter to a frame whose repaired identification is not 5 or 6
   pub alike : (other : Edition) (c : List ℕ) (n : ℕ) → NotSafety (identificationIn (repairOf (partAt c n) .word)) → numberAt ed c n ≡ numberAt other c n
+  pub frame-alike : (other : Edition) (main spare : List ℕ) (n : ℕ) → NotSafety (identificationIn (repairOf (partAt main n) .word))
+      → NotSafety (identificationIn (repairOf (partAt spare n) .word)) → frameAt ed main spare n ≡ frameAt other main spare n

@@ -9,7 +9,7 @@ use Rattle.follower.specs.declared.Seen.the-variants as seen
 use Rattle.follower.specs.declared.Follower.{Follower}
 use Rattle.follower.specs.declared.Follower.the-variants.{Quiet, Active}
 use Rattle.follower.specs.declared.Step.{Step}
-use Rattle.follower.specs.Follow.{warningEvent, silenceEvent, stepSeen}
+use Rattle.follower.specs.Follow.{informationEvent, silenceEvent, stepSeen}
 
 module _ (s : Follower) (x : Seen) where
   pub step-refused : (n : ℕ) → x ≡ seen.Refused n → _≡_ {A = Step} (record { next = s; event = event.Refused n }) (stepSeen s x)
@@ -18,6 +18,6 @@ module _ (s : Follower) (x : Seen) where
   pub step-silent : (t : Follower) → s ≡ t → x ≡ seen.Silence → _≡_ {A = Step} (record { next = Quiet; event = silenceEvent t }) (stepSeen s x)
   step-silent t h e = rw (h, e)
 
-  pub step-warned : (k : Kind) (u : ℕ) (v : Event) → x ≡ seen.Warning k u → v ≡ warningEvent s k u
+  pub step-informed : (k : Kind) (u : ℕ) (v : Event) → x ≡ seen.Information k u → v ≡ informationEvent s k u
       → _≡_ {A = Step} (record { next = Active k u; event = v }) (stepSeen s x)
-  step-warned k u v e h = rw (e, h)
+  step-informed k u v e h = rw (e, h)

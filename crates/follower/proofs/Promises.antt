@@ -38,15 +38,15 @@ use Rattle.follower.specs.declared.Follower.the-variants.{Quiet, Active}
 use Rattle.follower.specs.declared.Step.{Step}
 use Rattle.follower_events.specs.Events.{kindOf, sameKind, changeOf}
 use Rattle.follower_events.proofs.KindNumbers.{same-kind, other-kind}
-use Rattle.follower.specs.Follow.{warningEvent, silenceEvent, stepSeen, isFollowed, seenIn, seenOf, stepOf, eventNumber}
-use Rattle.follower.specs.Promises.{Warns, Silences, SomeSilence, stateAfter, eventsOf, Following, Some, Worked}
+use Rattle.follower.specs.Follow.{informationEvent, silenceEvent, stepSeen, informs, seenIn, seenOf, stepOf, eventNumber}
+use Rattle.follower.specs.Promises.{Informs, Silences, SomeSilence, stateAfter, eventsOf, KindTable, Following, Some, Worked}
 
 -- what has a kind is seen with it
-seen-followed : (c : Class) (r : Record) → isFollowed c ≡ true → seenIn c r ≡ seen.Warning (kindOf (r .identification)) (r .update)
-seen-followed class.Warning r e = refl
-seen-followed class.Safety r e = refl
-seen-followed class.Silent r e = absurd (true≢false (sym e))
-seen-followed class.Undefined r e = absurd (true≢false (sym e))
+seen-information : (c : Class) (r : Record) → informs c ≡ true → seenIn c r ≡ seen.Information (kindOf (r .identification)) (r .update)
+seen-information class.Warning r e = refl
+seen-information class.SafetyInformation r e = refl
+seen-information class.Silent r e = absurd (true≢false (sym e))
+seen-information class.Undefined r e = absurd (true≢false (sym e))
 
 -- an accepted frame's event has the number 0
 change-number : (v u : ℕ) → eventNumber (changeOf v u) ≡ 0
@@ -58,9 +58,9 @@ change-number v u = go (eqb u v) (eqb u ((v + 1) % 4))
     go false true = refl
     go false false = refl
 
-warning-number : (s : Follower) (k : Kind) (u : ℕ) → eventNumber (warningEvent s k u) ≡ 0
-warning-number Quiet k u = refl
-warning-number (Active h v) k u = go (sameKind h k)
+information-number : (s : Follower) (k : Kind) (u : ℕ) → eventNumber (informationEvent s k u) ≡ 0
+information-number Quiet k u = refl
+information-number (Active h v) k u = go (sameKind h k)
   where
     go : (t : Bool) → eventNumber (cond t (changeOf v u) event.Begins) ≡ 0
     go true = change-number v u
@@ -77,12 +77,12 @@ announcing i u = recordFrom (0 ∷ 0 ∷ i ∷ u ∷ [])
 module _ (ed : Edition) where
   -- ---- a step, by what the frame is
 
-  step-warned : (s : Follower) (f : List ℕ) (k : Kind) (u : ℕ) → Warns ed f k u → stepOf ed s f ≡ record { next = Active k u; event = warningEvent s k u }
+  step-informed : (s : Follower) (f : List ℕ) (k : Kind) (u : ℕ) → Informs ed f k u → stepOf ed s f ≡ record { next = Active k u; event = informationEvent s k u }
   unfolding stepOf
-  step-warned s f k u w =
+  step-informed s f k u w =
       ap (λ (r : Reading). stepSeen s (seenOf ed r)) (w .read)
-      ∙ ap (stepSeen s) (seen-followed (classOf ed (w .message .identification)) (w .message) (w .class))
-      ∙ ap₂ (λ (j : Kind) (v : ℕ). record { next = Active j v; event = warningEvent s j v }) (w .kind) (w .update)
+      ∙ ap (stepSeen s) (seen-information (classOf ed (w .message .identification)) (w .message) (w .class))
+      ∙ ap₂ (λ (j : Kind) (v : ℕ). record { next = Active j v; event = informationEvent s j v }) (w .kind) (w .update)
 
   step-silenced : (s : Follower) (f : List ℕ) → Silences ed f → stepOf ed s f ≡ record { next = Quiet; event = silenceEvent s }
   unfolding stepOf
@@ -93,48 +93,48 @@ module _ (ed : Edition) where
   unfolding stepOf
   step-refused s f n e = ap (λ (r : Reading). stepSeen s (seenOf ed r)) e
 
-  event-warned : (s : Follower) (f : List ℕ) (k : Kind) (u : ℕ) → Warns ed f k u → stepOf ed s f .event ≡ warningEvent s k u
-  event-warned s f k u w = ap (λ (t : Step). t .event) (step-warned s f k u w)
+  event-informed : (s : Follower) (f : List ℕ) (k : Kind) (u : ℕ) → Informs ed f k u → stepOf ed s f .event ≡ informationEvent s k u
+  event-informed s f k u w = ap (λ (t : Step). t .event) (step-informed s f k u w)
 
-  held : (s : Follower) (f : List ℕ) (k : Kind) (u : ℕ) → Warns ed f k u → stepOf ed s f .next ≡ Active k u
-  held s f k u w = ap (λ (t : Step). t .next) (step-warned s f k u w)
+  held : (s : Follower) (f : List ℕ) (k : Kind) (u : ℕ) → Informs ed f k u → stepOf ed s f .next ≡ Active k u
+  held s f k u w = ap (λ (t : Step). t .next) (step-informed s f k u w)
 
   -- ---- the event of a warning
 
-  event-again : (f : List ℕ) (k : Kind) (v u : ℕ) → Warns ed f k u → stepOf ed (Active k v) f .event ≡ changeOf v u
-  event-again f k v u w = event-warned (Active k v) f k u w ∙ rw (same-kind k)
+  event-again : (f : List ℕ) (k : Kind) (v u : ℕ) → Informs ed f k u → stepOf ed (Active k v) f .event ≡ changeOf v u
+  event-again f k v u w = event-informed (Active k v) f k u w ∙ rw (same-kind k)
 
-  other-begins : (f : List ℕ) (h k : Kind) (v u : ℕ) → Warns ed f k u → h ≢ k → stepOf ed (Active h v) f .event ≡ event.Begins
-  other-begins f h k v u w n = event-warned (Active h v) f k u w ∙ rw (other-kind h k n)
+  other-begins : (f : List ℕ) (h k : Kind) (v u : ℕ) → Informs ed f k u → h ≢ k → stepOf ed (Active h v) f .event ≡ event.Begins
+  other-begins f h k v u w n = event-informed (Active h v) f k u w ∙ rw (other-kind h k n)
 
-  same : (f : List ℕ) (k : Kind) (u : ℕ) → Warns ed f k u → stepOf ed (Active k u) f .event ≡ event.Same
+  same : (f : List ℕ) (k : Kind) (u : ℕ) → Informs ed f k u → stepOf ed (Active k u) f .event ≡ event.Same
   unfolding changeOf
   same f k u w = event-again f k u u w ∙ rw (eq-eqb u u refl)
 
-  changed : (f : List ℕ) (k : Kind) (v u : ℕ) → Warns ed f k u → u ≡ (v + 1) % 4 → stepOf ed (Active k v) f .event ≡ event.Changed
+  changed : (f : List ℕ) (k : Kind) (v u : ℕ) → Informs ed f k u → u ≡ (v + 1) % 4 → stepOf ed (Active k v) f .event ≡ event.Changed
   unfolding changeOf
   changed f k v u w e = event-again f k v u w ∙ rw (ne-eqb u v (λ z. omega arith), eq-eqb u ((v + 1) % 4) e)
 
-  skipped : (f : List ℕ) (k : Kind) (v u : ℕ) → Warns ed f k u → u ≢ v → u ≢ (v + 1) % 4 → stepOf ed (Active k v) f .event ≡ event.Skipped
+  skipped : (f : List ℕ) (k : Kind) (v u : ℕ) → Informs ed f k u → u ≢ v → u ≢ (v + 1) % 4 → stepOf ed (Active k v) f .event ≡ event.Skipped
   unfolding changeOf
   skipped f k v u w a b = event-again f k v u w ∙ rw (ne-eqb u v a, ne-eqb u ((v + 1) % 4) b)
 
   -- ---- what an accepted frame is
 
-  accepted : (f : List ℕ) (r : Record) (d : Damage) → readOf ed f ≡ Accepted r d → Warns ed f (kindOf (r .identification)) (r .update) ⊎ Silences ed f
+  accepted : (f : List ℕ) (r : Record) (d : Damage) → readOf ed f ≡ Accepted r d → Informs ed f (kindOf (r .identification)) (r .update) ⊎ Silences ed f
   accepted f r d e = go (classOf ed (r .identification)) refl
     where
-      go : (c : Class) → classOf ed (r .identification) ≡ c → Warns ed f (kindOf (r .identification)) (r .update) ⊎ Silences ed f
-      go class.Warning q = inl (record { message = r; damage = d; read = e; class = ap isFollowed q; kind = refl; update = refl })
-      go class.Safety q = inl (record { message = r; damage = d; read = e; class = ap isFollowed q; kind = refl; update = refl })
+      go : (c : Class) → classOf ed (r .identification) ≡ c → Informs ed f (kindOf (r .identification)) (r .update) ⊎ Silences ed f
+      go class.Warning q = inl (record { message = r; damage = d; read = e; class = ap informs q; kind = refl; update = refl })
+      go class.SafetyInformation q = inl (record { message = r; damage = d; read = e; class = ap informs q; kind = refl; update = refl })
       go class.Silent q = inr (record { message = r; damage = d; read = e; class = q })
       go class.Undefined q = absurd (true≢false (sym (ap isUndefined q) ∙ legal-sound ed r (demand2 ed .read-legal f r d e) .known))
 
   numbered : (s : Follower) (f : List ℕ) → eventNumber (stepOf ed s f .event) ≡ readingNumber (readOf ed f)
   numbered s f = go (readOf ed f) refl
     where
-      either : {k : Kind} {u : ℕ} → Warns ed f k u ⊎ Silences ed f → eventNumber (stepOf ed s f .event) ≡ 0
-      either {k} {u} (inl w) = ap eventNumber (event-warned s f k u w) ∙ warning-number s k u
+      either : {k : Kind} {u : ℕ} → Informs ed f k u ⊎ Silences ed f → eventNumber (stepOf ed s f .event) ≡ 0
+      either {k} {u} (inl w) = ap eventNumber (event-informed s f k u w) ∙ information-number s k u
       either (inr w) = ap (λ (t : Step). eventNumber (t .event)) (step-silenced s f w) ∙ silence-number s
 
       go : (r : Reading) → readOf ed f ≡ r → eventNumber (stepOf ed s f .event) ≡ readingNumber (readOf ed f)
@@ -146,7 +146,7 @@ module _ (ed : Edition) where
   forgets : (s t : Follower) (f : List ℕ) (r : Record) (d : Damage) → readOf ed f ≡ Accepted r d → stepOf ed s f .next ≡ stepOf ed t f .next
   forgets s t f r d e = go (accepted f r d e)
     where
-      go : {k : Kind} {u : ℕ} → Warns ed f k u ⊎ Silences ed f → stepOf ed s f .next ≡ stepOf ed t f .next
+      go : {k : Kind} {u : ℕ} → Informs ed f k u ⊎ Silences ed f → stepOf ed s f .next ≡ stepOf ed t f .next
       go {k} {u} (inl w) = held s f k u w ∙ sym (held t f k u w)
       go (inr w) = ap (λ (x : Step). x .next) (step-silenced s f w) ∙ sym (ap (λ (x : Step). x .next) (step-silenced t f w))
 
@@ -165,22 +165,22 @@ module _ (ed : Edition) where
   -- ---- there are such frames
 
   -- it is legal, where the edition has it
-  legal : (c : Class) (i u : ℕ) → classOf ed i ≡ c → isFollowed c ≡ true → i < 8 → u < 4 → Legal ed (announcing i u)
+  legal : (c : Class) (i u : ℕ) → classOf ed i ≡ c → informs c ≡ true → i < 8 → u < 4 → Legal ed (announcing i u)
   unfolding announcing recordFrom recordRefusal firstRefusal row layout scatter fieldWidths freeWidths
   legal class.Warning i u q f hi hu = rw (q, lt-ltb i 8 hi, lt-ltb u 4 hu)
-  legal class.Safety i u q f hi hu = rw (q, lt-ltb i 8 hi, lt-ltb u 4 hu)
+  legal class.SafetyInformation i u q f hi hu = rw (q, lt-ltb i 8 hi, lt-ltb u 4 hu)
   legal class.Silent i u q f hi hu = absurd (true≢false (sym f))
   legal class.Undefined i u q f hi hu = absurd (true≢false (sym f))
 
   -- and has three bits
-  followed-lt : (i : ℕ) → isFollowed (classOf ed i) ≡ true → i < 8
-  followed-lt i f = go (ltb 7 i) refl
+  informs-lt : (i : ℕ) → informs (classOf ed i) ≡ true → i < 8
+  informs-lt i f = go (ltb 7 i) refl
     where
       go : (t : Bool) → ltb 7 i ≡ t → i < 8
-      go true e = absurd (true≢false (sym f ∙ ap isFollowed (beyond ed i (ltb-true 7 i e))))
+      go true e = absurd (true≢false (sym f ∙ ap informs (beyond ed i (ltb-true 7 i e))))
       go false e = omega (arith, ltb-false 7 i e)
 
-  some : (i u : ℕ) → isFollowed (classOf ed i) ≡ true → u < 4 → Some ed (kindOf i) u
+  some : (i u : ℕ) → informs (classOf ed i) ≡ true → u < 4 → Some ed (kindOf i) u
   unfolding announcing recordFrom
   some i u f h =
       let r = announcing i u in
@@ -190,7 +190,7 @@ module _ (ed : Edition) where
             record {
               message = r;
               damage = noDamage;
-              read = demand2 ed .comes-back r (legal (classOf ed i) i u refl f (followed-lt i f) h);
+              read = demand2 ed .comes-back r (legal (classOf ed i) i u refl f (informs-lt i f) h);
               class = f;
               kind = refl;
               update = refl;
@@ -225,10 +225,9 @@ module _ (ed : Edition) where
       go (Refused m) e = rw (sym same-read, e)
 
   pub following : Following ed
-  unfolding kindOf
   following =
       record {
-        begins = event-warned Quiet;
+        begins = event-informed Quiet;
         other-begins = other-begins;
         same = same;
         changed = changed;
@@ -236,7 +235,6 @@ module _ (ed : Edition) where
         held = held;
         quiet = step-silenced Quiet;
         ended = λ f k v. step-silenced (Active k v) f;
-        kinds = refl;
         some = some;
         silence-some = silence-some;
         refused = step-refused;
@@ -248,10 +246,16 @@ module _ (ed : Edition) where
         alike = alike;
       }
 
+-- ---- the kinds
+
+pub kind-table : KindTable
+unfolding kindOf
+kind-table = record { kinds = refl }
+
 -- ---- worked example 9
 
 -- two warnings one after the other
-twice : (s : Follower) (f g : List ℕ) (k : Kind) (v u : ℕ) → Warns First f k v → Warns First g k u
+twice : (s : Follower) (f g : List ℕ) (k : Kind) (v u : ℕ) → Informs First f k v → Informs First g k u
     → stepOf First (stepOf First s f .next) g .event ≡ changeOf v u
 twice s f g k v u p q = ap (λ (x : Follower). stepOf First x g .event) (held First s f k v p) ∙ event-again First g k v u q
 

@@ -20,33 +20,33 @@ use Rattle.follower.specs.declared.Follower.{Follower}
 use Rattle.follower.specs.declared.Follower.the-variants.{Quiet, Active}
 use Rattle.follower.specs.declared.Step.{Step}
 
--- a warning from quiet, or of any other kind: "begins"; area safety information has a kind too, and is followed like a warning
-abbrev pub warningEvent : Follower → Kind → ℕ → Event
-warningEvent Quiet k u = event.Begins
-warningEvent (Active h v) k u = cond (sameKind h k) (changeOf v u) event.Begins
+-- information, which is a warning or area safety information: from quiet, or of any other kind, "begins"
+abbrev pub informationEvent : Follower → Kind → ℕ → Event
+informationEvent Quiet k u = event.Begins
+informationEvent (Active h v) k u = cond (sameKind h k) (changeOf v u) event.Begins
 
 -- no information: from quiet "quiet", else "ended"
 abbrev pub silenceEvent : Follower → Event
 silenceEvent Quiet = event.Quiet
 silenceEvent (Active h v) = event.Ended
 
--- the next state and the event: a refused frame keeps the state, no information makes it quiet, and a warning's update number is always held
+-- the next state and the event: a refused frame keeps the state, no information makes it quiet, and information's update number is always held
 abbrev pub stepSeen : Follower → Seen → Step
 stepSeen s (seen.Refused n) = record { next = s; event = event.Refused n }
 stepSeen s seen.Silence = record { next = Quiet; event = silenceEvent s }
-stepSeen s (seen.Warning k u) = record { next = Active k u; event = warningEvent s k u }
+stepSeen s (seen.Information k u) = record { next = Active k u; event = informationEvent s k u }
 
--- a warning or area safety information: what has a kind
-abbrev pub isFollowed : Class → Bool
-isFollowed class.Warning = true
-isFollowed class.Safety = true
-isFollowed class.Silent = false
-isFollowed class.Undefined = false
+-- a warning or area safety information: what has a kind, and is followed
+abbrev pub informs : Class → Bool
+informs class.Warning = true
+informs class.SafetyInformation = true
+informs class.Silent = false
+informs class.Undefined = false
 
 -- what an accepted frame's record shows; it is never undefined
 abbrev pub seenIn : Class → Record → Seen
-seenIn class.Warning r = seen.Warning (kindOf (r .identification)) (r .update)
-seenIn class.Safety r = seen.Warning (kindOf (r .identification)) (r .update)
+seenIn class.Warning r = seen.Information (kindOf (r .identification)) (r .update)
+seenIn class.SafetyInformation r = seen.Information (kindOf (r .identification)) (r .update)
 seenIn class.Silent r = seen.Silence
 seenIn class.Undefined r = seen.Refused 6
 

@@ -1,4 +1,5 @@
--- What this crate promises, in the words of documents 01 and 02, a). The records have one value each, `Following` for every edition, proved in proofs/Promises.antt. Assumes nothing.
+-- What this crate promises, in the words of documents 01 and 02, a). The records have one value each, `Following` for every edition, proved in
+-- proofs/Promises.antt. "Information" is a warning or area safety information, a test of either too. Assumes nothing.
 use mathlib.Core.Path.{_≡_}
 use mathlib.Core.Bool.{true}
 use mathlib.Core.Logic.{_≢_, _⊎_}
@@ -22,14 +23,14 @@ use Rattle.follower_events.specs.declared.Event.the-variants as event
 use Rattle.follower.specs.declared.Follower.{Follower}
 use Rattle.follower.specs.declared.Follower.the-variants.{Quiet, Active}
 use Rattle.follower_events.specs.Events.{kindOf}
-use Rattle.follower.specs.Follow.{isFollowed, eventNumber, stepOf}
+use Rattle.follower.specs.Follow.{informs, eventNumber, stepOf}
 
--- the frame f is accepted, and is a warning or area safety information, of kind k and with the update number u
-pub record Warns (ed : Edition) (f : List ℕ) (k : Kind) (u : ℕ) : Type 0 where
+-- the frame f is accepted, and has information of kind k with the update number u
+pub record Informs (ed : Edition) (f : List ℕ) (k : Kind) (u : ℕ) : Type 0 where
   pub message : Record
   pub damage : Damage
   pub read : readOf ed f ≡ Accepted message damage
-  pub class : isFollowed (classOf ed (message .identification)) ≡ true
+  pub class : informs (classOf ed (message .identification)) ≡ true
   pub kind : kindOf (message .identification) ≡ k
   pub update : message .update ≡ u
 
@@ -45,10 +46,10 @@ pub record SomeSilence (ed : Edition) : Type 0 where
   pub frame : List ℕ
   pub silences : Silences ed frame
 
--- some frame is a warning of kind k with the update number u
+-- some frame has information of kind k with the update number u
 pub record Some (ed : Edition) (k : Kind) (u : ℕ) : Type 0 where
   pub frame : List ℕ
-  pub warns : Warns ed frame k u
+  pub warns : Informs ed frame k u
 
 -- the state after frames, and their events
 unfoldable pub stateAfter : Edition → Follower → List (List ℕ) → Follower
@@ -59,29 +60,32 @@ unfoldable pub eventsOf : Edition → Follower → List (List ℕ) → List Even
 eventsOf ed s [] = []
 eventsOf ed s (f ∷ fs) = stepOf ed s f .event ∷ eventsOf ed (stepOf ed s f .next) fs
 
+-- the kinds
+pub record KindTable : Type 0 where
+  -- 0 and 1 are real, 2 and 3 a test, 5 is area safety information, 6 its test
+  pub kinds : kindOf 0 ∷ kindOf 1 ∷ kindOf 2 ∷ kindOf 3 ∷ kindOf 5 ∷ kindOf 6 ∷ [] ≡ Real ∷ Real ∷ Test ∷ Test ∷ Safety ∷ SafetyTest ∷ []
+
 pub record Following (ed : Edition) : Type 0 where
-  -- a warning from quiet, or of any other kind: "begins"
-  pub begins : (f : List ℕ) (k : Kind) (u : ℕ) → Warns ed f k u → stepOf ed Quiet f .event ≡ event.Begins
-  pub other-begins : (f : List ℕ) (h k : Kind) (v u : ℕ) → Warns ed f k u → h ≢ k → stepOf ed (Active h v) f .event ≡ event.Begins
+  -- information from quiet, or of any other kind: "begins"
+  pub begins : (f : List ℕ) (k : Kind) (u : ℕ) → Informs ed f k u → stepOf ed Quiet f .event ≡ event.Begins
+  pub other-begins : (f : List ℕ) (h k : Kind) (v u : ℕ) → Informs ed f k u → h ≢ k → stepOf ed (Active h v) f .event ≡ event.Begins
   -- same kind: u equal "same", u+1 mod 4 "changed", otherwise "skipped", whatever number the state holds
-  pub same : (f : List ℕ) (k : Kind) (u : ℕ) → Warns ed f k u → stepOf ed (Active k u) f .event ≡ event.Same
-  pub changed : (f : List ℕ) (k : Kind) (v u : ℕ) → Warns ed f k u → u ≡ (v + 1) % 4 → stepOf ed (Active k v) f .event ≡ event.Changed
-  pub skipped : (f : List ℕ) (k : Kind) (v u : ℕ) → Warns ed f k u → u ≢ v → u ≢ (v + 1) % 4 → stepOf ed (Active k v) f .event ≡ event.Skipped
-  -- after a warning the new state always holds the new u, and its kind
-  pub held : (s : Follower) (f : List ℕ) (k : Kind) (u : ℕ) → Warns ed f k u → stepOf ed s f .next ≡ Active k u
+  pub same : (f : List ℕ) (k : Kind) (u : ℕ) → Informs ed f k u → stepOf ed (Active k u) f .event ≡ event.Same
+  pub changed : (f : List ℕ) (k : Kind) (v u : ℕ) → Informs ed f k u → u ≡ (v + 1) % 4 → stepOf ed (Active k v) f .event ≡ event.Changed
+  pub skipped : (f : List ℕ) (k : Kind) (v u : ℕ) → Informs ed f k u → u ≢ v → u ≢ (v + 1) % 4 → stepOf ed (Active k v) f .event ≡ event.Skipped
+  -- after information the new state always holds the new u, and its kind
+  pub held : (s : Follower) (f : List ℕ) (k : Kind) (u : ℕ) → Informs ed f k u → stepOf ed s f .next ≡ Active k u
   -- no information: from quiet "quiet", else "ended", and the state is quiet
   pub quiet : (f : List ℕ) → Silences ed f → stepOf ed Quiet f ≡ record { next = Quiet; event = event.Quiet }
   pub ended : (f : List ℕ) (k : Kind) (v : ℕ) → Silences ed f → stepOf ed (Active k v) f ≡ record { next = Quiet; event = event.Ended }
-  -- 0 and 1 are real, 2 and 3 a test, 5 is area safety information, 6 its test
-  pub kinds : kindOf 0 ∷ kindOf 1 ∷ kindOf 2 ∷ kindOf 3 ∷ kindOf 5 ∷ kindOf 6 ∷ [] ≡ Real ∷ Real ∷ Test ∷ Test ∷ Safety ∷ SafetyTest ∷ []
-  -- there are frames of every identification that the edition has for a warning or area safety information, with every update
-  pub some : (i u : ℕ) → isFollowed (classOf ed i) ≡ true → u < 4 → Some ed (kindOf i) u
+  -- there are frames of every identification that the edition has for information, with every update
+  pub some : (i u : ℕ) → informs (classOf ed i) ≡ true → u < 4 → Some ed (kindOf i) u
   -- some frame says that there is no information
   pub silence-some : SomeSilence ed
   -- a refused frame gives its number and the old state
   pub refused : (s : Follower) (f : List ℕ) (n : ℕ) → readOf ed f ≡ Refused n → stepOf ed s f ≡ record { next = s; event = event.Refused n }
-  -- every accepted frame is a warning or says that there is no information
-  pub accepted : (f : List ℕ) (r : Record) (d : Damage) → readOf ed f ≡ Accepted r d → Warns ed f (kindOf (r .identification)) (r .update) ⊎ Silences ed f
+  -- every accepted frame has information or says that there is none
+  pub accepted : (f : List ℕ) (r : Record) (d : Damage) → readOf ed f ≡ Accepted r d → Informs ed f (kindOf (r .identification)) (r .update) ⊎ Silences ed f
   -- the event has the frame's number, 0 where it is accepted
   pub numbered : (s : Follower) (f : List ℕ) → eventNumber (stepOf ed s f .event) ≡ readingNumber (readOf ed f)
   -- after an accepted frame the next state does not depend on the old one
@@ -98,10 +102,10 @@ pub record Following (ed : Edition) : Type 0 where
 -- document 01's worked example 9, in the first edition
 pub record Worked : Type 0 where
   -- update 3 then 0, same kind: "changed"
-  pub example9-changed : (s : Follower) (f g : List ℕ) (k : Kind) → Warns First f k 3 → Warns First g k 0
+  pub example9-changed : (s : Follower) (f g : List ℕ) (k : Kind) → Informs First f k 3 → Informs First g k 0
       → stepOf First (stepOf First s f .next) g .event ≡ event.Changed
   -- 0 then 3: "skipped"
-  pub example9-skipped : (s : Follower) (f g : List ℕ) (k : Kind) → Warns First f k 0 → Warns First g k 3
+  pub example9-skipped : (s : Follower) (f g : List ℕ) (k : Kind) → Informs First f k 0 → Informs First g k 3
       → stepOf First (stepOf First s f .next) g .event ≡ event.Skipped
   -- there are such frames, of each kind that the first edition has, and of each update
   pub example9-some : (u : ℕ) → u < 4 → Some First Real u × Some First Test u

@@ -1,7 +1,7 @@
 // Following the update number, by the edition named: the old state goes in by value, the next one comes back with an event.
 ghost use mathlib.Core.Path.{_≡_};
 ghost use Rattle.follower.specs.declared.Follower.the-variants.{Quiet};
-ghost use Rattle.follower.specs.Follow.{warningEvent, seenIn, seenOf, stepSeen};
+ghost use Rattle.follower.specs.Follow.{informationEvent, seenIn, seenOf, stepSeen};
 pub use follower_events::Event;
 pub use follower_events::Kind;
 use frame::Class;
@@ -9,14 +9,15 @@ use frame::Edition;
 use frame::Reading;
 use frame::Record;
 
-// What a frame shows to the follower: a warning or area safety information, of this kind and with this update number, or neither.
+// What a frame shows to the follower: information, which is a warning or area safety information, of this kind and with this update number; that there is
+// none; or a refusal.
 pub enum Seen {
-    Warning(Kind, u64),
+    Information(Kind, u64),
     Silence,
     Refused(u8),
 }
 
-// The state: quiet, or a warning or area safety information of this kind, with its update number.
+// The state: quiet, or information of this kind, with its update number.
 pub enum Follower {
     Quiet,
     Active(Kind, u64),
@@ -27,9 +28,9 @@ pub struct Step {
     pub event: Event,
 }
 
-// The event of a warning.
-fn warning_event(state: Follower, kind: Kind, update: u64) -> Event
-    ensures { λ r. ⌜ r ≡ warningEvent state kind update ⌝ }
+// The event of information.
+fn information_event(state: Follower, kind: Kind, update: u64) -> Event
+    ensures { λ r. ⌜ r ≡ informationEvent state kind update ⌝ }
 {
     match state {
         Follower::Quiet => Event::Begins,
@@ -47,11 +48,11 @@ fn seen_in(class: Class, message: Record) -> Seen
     ensures { λ r. ⌜ r ≡ seenIn class message ⌝ }
 {
     match class {
-        Class::Warning => Seen::Warning(
+        Class::Warning => Seen::Information(
             follower_events::kind_of(message.identification),
             message.update,
         ),
-        Class::Safety => Seen::Warning(
+        Class::SafetyInformation => Seen::Information(
             follower_events::kind_of(message.identification),
             message.update,
         ),
@@ -105,9 +106,9 @@ impl Follower {
                     event: Event::Ended,
                 },
             },
-            Seen::Warning(kind, update) => Step {
+            Seen::Information(kind, update) => Step {
                 next: Follower::Active(kind, update),
-                event: warning_event(self, kind, update),
+                event: information_event(self, kind, update),
             },
         }
     }

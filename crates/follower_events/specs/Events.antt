@@ -11,7 +11,7 @@ use Rattle.follower_events.specs.declared.Event.the-variants as event
 unfoldable pub kindOf : (identification : ℕ) → Kind
 kindOf i = cond (leb i 1) Real (cond (leb i 3) Test (cond (eqb i 5) Safety SafetyTest))
 
--- a number for each kind, and the kind that has it
+-- a number for each kind, by which the C library numbers its states, and the kind that has it; any other number is the last one's
 abbrev pub kindNumber : Kind → ℕ
 kindNumber Real = 1
 kindNumber Test = 2
@@ -21,7 +21,7 @@ kindNumber SafetyTest = 4
 unfoldable pub kindAt : ℕ → Kind
 kindAt n = cond (eqb n 1) Real (cond (eqb n 2) Test (cond (eqb n 3) Safety SafetyTest))
 
--- the same kind has the same number, and no two kinds have
+-- two kinds are the same where their numbers are: no two have one number
 abbrev pub sameKind : Kind → Kind → Bool
 sameKind h k = eqb (kindNumber h) (kindNumber k)
 

@@ -47,7 +47,7 @@ pub fn kind_number(kind: Kind) -> u32
     }
 }
 
-// The kind that has this number.
+// The kind that has this number; any other is taken for the last one's.
 pub fn kind_at(number: u32) -> Kind
     ensures { λ r. ⌜ r ≡ kindAt number ⌝ }
 {

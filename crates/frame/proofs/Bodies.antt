@@ -23,9 +23,9 @@ use Rattle.frame.specs.Fields.{fieldCount, fields, recordFrom, gather, s
 use Rattle.frame.specs.Write.{recordRefusal, Legal}
 use Rattle.frame.specs.declared.Edition.{Edition}
 use Rattle.frame.specs.declared.Class.{Class}
-use Rattle.frame.specs.declared.Class.the-variants.{Warning, Safety, Silent, Undefined}
+use Rattle.frame.specs.declared.Class.the-variants.{Warning, SafetyInformation, Silent, Undefined}
 use Rattle.frame.specs.declared.Body.{Body}
-use Rattle.frame.specs.declared.Body.the-variants.{AreaPage, PlacePage, CancelPage, SafetyInformation, NoInformation}
+use Rattle.frame.specs.declared.Body.the-variants.{AreaPage, PlacePage, CancelPage, SafetyDetails, NoInformation}
 use Rattle.frame.specs.declared.Record.{Record}
 use Rattle.frame.proofs.Indices.{length-scatter, absent, apart, scatter-other, scatter-shared, gather-scatter, fit-at, fit-gather, fit-scatter, Agree, next, agree-scatter, agree-fit, agree-none}
 
@@ -36,7 +36,7 @@ pub data Chosen : Class → ℕ → ℕ → Body → Type 0 where
   area : {p k : ℕ} → p ≢ 1 → Chosen Warning p k AreaPage
   place : {p k : ℕ} → p ≡ 1 → k ≢ 1 → Chosen Warning p k PlacePage
   cancel : {p k : ℕ} → p ≡ 1 → k ≡ 1 → Chosen Warning p k CancelPage
-  safety : {p k : ℕ} → Chosen Safety p k SafetyInformation
+  safety : {p k : ℕ} → Chosen SafetyInformation p k SafetyDetails
   silent : {p k : ℕ} → Chosen Silent p k NoInformation
   undefined : {p k : ℕ} → Chosen Undefined p k NoInformation
 
@@ -47,7 +47,7 @@ chosen Warning p k = go (eqb p 1) (eqb k 1) refl refl
     go true true es et = cancel (eqb-true p 1 es) (eqb-true k 1 et)
     go true false es et = place (eqb-true p 1 es) (eqb-false k 1 et)
     go false t es et = area (eqb-false p 1 es)
-chosen Safety p k = safety
+chosen SafetyInformation p k = safety
 chosen Silent p k = silent
 chosen Undefined p k = undefined
 
@@ -127,7 +127,7 @@ unfolding row layout widths sum scatter fieldWidths freeWidths spanOf rightRow a
 right-row AreaPage = refl
 right-row PlacePage = refl
 right-row CancelPage = refl
-right-row SafetyInformation = refl
+right-row SafetyDetails = refl
 right-row NoInformation = refl
 
 -- the same as facts
@@ -258,7 +258,7 @@ update-agrees : (b : Body) (r : Record) {c : Class} → Chosen c (r .page) (r .k
 update-agrees AreaPage r (area n) h = refl
 update-agrees PlacePage r (place p n) h = refl
 update-agrees CancelPage r (cancel p k) h = refl
-update-agrees SafetyInformation r safety h = refl
+update-agrees SafetyDetails r safety h = refl
 update-agrees NoInformation r k h = omega arith
 
 -- and the record that is found there: what is not free is 0
@@ -296,7 +296,7 @@ unfolding row layout gather bodyValues widths withFixed sum
 body-again AreaPage r (area n) f = rw (found AreaPage r f 1, ne-eqb (r .page) 1 n)
 body-again PlacePage r (place p n) f = rw (found PlacePage r f 1, found PlacePage r f 5, p, ne-eqb (r .kind) 1 n)
 body-again CancelPage r (cancel p k) f = rw (found CancelPage r f 1, found CancelPage r f 5, p, k)
-body-again SafetyInformation r safety f = refl
+body-again SafetyDetails r safety f = refl
 body-again NoInformation r silent f = refl
 body-again NoInformation r undefined f = refl
 
@@ -313,7 +313,7 @@ own-lt : (b : Body) (u : ℕ) → u < 4 → ownUpdate b u < 2 ^ ownUpdate b 2
 own-lt AreaPage u h = h
 own-lt PlacePage u h = h
 own-lt CancelPage u h = h
-own-lt SafetyInformation u h = h
+own-lt SafetyDetails u h = h
 own-lt NoInformation u h = omega arith
 
 fit-none : (n : ℕ) → Fit (replicate n 0) (replicate n 0)
@@ -338,7 +338,7 @@ unfolding row layout scatter recordFrom recordOf widths free unpack
 record-body AreaPage x p i u d (area n) = rw (ne-eqb (value (take 1 (drop 31 d))) 1 n)
 record-body PlacePage x p i u d (place e n) = rw (e, kind-at d, ne-eqb (value (take 1 (drop 43 d))) 1 n)
 record-body CancelPage x p i u d (cancel e k) = rw (e, kind-at d, k)
-record-body SafetyInformation x p i u d safety = refl
+record-body SafetyDetails x p i u d safety = refl
 record-body NoInformation x p i u d silent = refl
 record-body NoInformation x p i u d undefined = refl
 

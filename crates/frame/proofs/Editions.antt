@@ -1,35 +1,33 @@
--- What the editions differ in and what they share, and that area safety information is carried whole. Assumes nothing.
+-- What the editions differ in and what they share. Assumes nothing.
 use mathlib.Core.Path.{_≡_, refl, sym, ap, _∙_}
-use mathlib.Core.Bool.{cond}
-use mathlib.Core.Logic.{_⊎_, inl, inr}
-use mathlib.Core.List.{List, [], _∷_, _++_, append-nil}
-use Prim.Native.Nat.{ℕ, _^_, _<_}
+use mathlib.Core.Bool.{Bool, true, false, true≢false, cond}
+use mathlib.Core.Logic.{_≢_, _⊎_, inl, inr}
+use mathlib.Core.List.{List, [], _∷_, _++_, append-assoc}
+use Prim.Native.Nat.{ℕ, _≤_}
 use native.Mathlib.Omega.{arith}
 use lib.Dec.{eqb}
-use Rattle.bits.specs.Bits.{value, bitsOf}
+use lib.ListN.{take, drop}
+use borrow.Author.Tests.{eqb-true, eqb-false, ne-eqb}
+use Rattle.bits.specs.Bits.{value}
 use Rattle.bits.specs.Field.{fieldAt}
-use Rattle.bits.specs.Layout.{Fit, pack}
-use Rattle.bits.specs.Segment.{widths, freeWidths, withFixed, packSegments}
+use Rattle.bits.specs.Refusal.{firstRefusal}
 use Rattle.bits.proofs.Bits.{value-bitsOf-fit}
-use Rattle.bits.proofs.Refusal.{refusal-here}
+use Rattle.bits.proofs.Refusal.{refusal-here, refusal-none, refusal-append-given, refusal-append-none, refusal-most}
 use Rattle.dsc.specs.Repair.{repairOf}
-use Rattle.frame.specs.Identification.{classOf, startEndOf, isUndefined}
-use Rattle.frame.specs.Body.{row, layout}
-use Rattle.frame.specs.Fields.{gather, bodyValues, recordBody}
-use Rattle.frame.specs.Read.{identificationIn, detailsIn, frameRefusal, placesIn, judgeOf, readOf, cleanOf, cleanedOf}
-use Rattle.frame.specs.Write.{Legal, announced, messageBits, recordRefusal, frameOf, writeNumber, writeOf}
-use Rattle.frame.specs.Promises.{NotSafety, FrameAlike, RecordAlike, Editions, safetyRecord, CarriedWhole}
+use Rattle.frame.specs.Identification.{classOf, startEndOf, updateOf, isUndefined}
+use Rattle.frame.specs.Fields.{recordBody}
+use Rattle.frame.specs.Read.{identificationIn, classIn, frameTests, frameRefusal, placesIn, judgeOf, readOf, cleanOf, cleanedOf}
+use Rattle.frame.specs.Write.{announced, messageBits, recordRefusal, frameOf, writeNumber, writeOf}
+use Rattle.frame.specs.Promises.{NotSafety, FrameAlike, RecordAlike, Editions}
 use Rattle.frame.specs.declared.Edition.{Edition}
-use Rattle.frame.specs.declared.Edition.the-variants.{First, AreaSafety}
-use Rattle.frame.specs.declared.Class.the-variants.{Safety}
-use Rattle.frame.specs.declared.Body.{Body}
-use Rattle.frame.specs.declared.Body.the-variants.{SafetyInformation}
+use Rattle.frame.specs.declared.Edition.the-variants.{First}
+use Rattle.frame.specs.declared.Class.the-variants.{Undefined}
 use Rattle.frame.specs.declared.Record.{Record}
 use Rattle.frame.specs.declared.Damage.{Damage}
 use Rattle.frame.specs.declared.Reading.the-variants.{Accepted}
-use Rattle.frame.proofs.Identifications.{class-alike, beyond, safety-class, start-end}
-use Rattle.frame.proofs.Bodies.{sound-legal, record-fit, taken}
-use Rattle.frame.proofs.Frames.{start-lt, length-frame, parts-frame, own-parts}
+use Rattle.frame.proofs.Identifications.{class-alike, beyond, safety-class, table-start-end, table-update}
+use Rattle.frame.proofs.Bodies.{chosen, legal-sound, own-update}
+use Rattle.frame.proofs.Frames.{start-lt, update-lt, length-frame, parts-frame, own-parts}
 use Rattle.frame.proofs.Promises.{demand2}
 
 -- ---- what the editions share: an answer looks at the edition for the class alone
@@ -60,26 +58,101 @@ module _ (ed other : Edition) (r : Record) (n : NotSafety (r .identification)) w
   record-alike =
       record { refusal = record-refusal-alike; number = λ m. rw record-refusal-alike; written = λ s. rw (record-refusal-alike, written-alike) }
 
--- ---- the first edition
+-- ---- what an edition does not have
 
-first-unwritten : (r : Record) → (r .identification ≡ 5) ⊎ (r .identification ≡ 6) → recordRefusal First r ≡ 6
+unwritten : (ed : Edition) (r : Record) → classOf ed (r .identification) ≡ Undefined → recordRefusal ed r ≡ 6
 unfolding recordRefusal
-first-unwritten r e = refusal-here 6 _ (ap isUndefined (safety-class (r .identification) e .0))
+unwritten ed r e = refusal-here 6 _ (ap isUndefined e)
 
-first-unread : (f : List ℕ) (r : Record) (d : Damage) → readOf First f ≡ Accepted r d → NotSafety (r .identification)
-first-unread f r d e =
-    let legal = demand2 First .read-legal f r d e in
-    let other : (r .identification ≡ 5) ⊎ (r .identification ≡ 6) → ⊥ = λ s. omega (arith, legal, first-unwritten r s) in
-    ((λ z. other (inl z)), (λ z. other (inr z)))
+-- the tests before 6, which look at no edition
+earlier : List ℕ → List (ℕ × Bool)
+earlier f = take 5 (frameTests First f)
 
-begins-with : (ed : Edition) (f : List ℕ) (r : Record) (d : Damage) → readOf ed f ≡ Accepted r d
-    → fieldAt (cleanOf f) 17 2 ≡ cond (eqb (r .identification) 7) 3 0
-begins-with ed f r d e =
-    let c = classOf ed (r .identification) in
-    ap (λ (g : List ℕ). fieldAt g 17 2) (sym (demand2 ed .written-again f r d e))
-    ∙ ap value (own-parts ed r (frameOf ed r) (length-frame ed r) (parts-frame ed r .word) .start)
-    ∙ value-bitsOf-fit 2 (startEndOf c) (start-lt c)
-    ∙ start-end ed (r .identification)
+-- and those after it
+later : Edition → List ℕ → List (ℕ × Bool)
+later ed f = drop 6 (frameTests ed f)
+
+by-six : (ed : Edition) (f : List ℕ) → frameRefusal ed f ≡ firstRefusal (earlier f ++ (6, isUndefined (classIn ed (repairOf f .word))) ∷ later ed f)
+unfolding frameRefusal earlier later
+by-six ed f = refl
+
+module _ (ed : Edition) (f : List ℕ) (e : classIn ed (repairOf f .word) ≡ Undefined) where
+  -- the table up to 6
+  six : List (ℕ × Bool)
+  six = earlier f ++ (6, true) ∷ []
+
+  six-some : firstRefusal six ≢ 0
+  unfolding six earlier
+  six-some z = true≢false (refusal-none six refl z .1 .1 .1 .1 .1 .0)
+
+  until-six : frameRefusal ed f ≡ firstRefusal six
+  unfolding six
+  until-six =
+      let given : List (ℕ × Bool) = earlier f ++ (6, true) ∷ [] in
+      by-six ed f
+      ∙ ap (λ (t : Bool). firstRefusal (earlier f ++ (6, t) ∷ later ed f)) (ap isUndefined e)
+      ∙ ap firstRefusal (sym (append-assoc (earlier f) ((6, true) ∷ []) (later ed f)))
+      ∙ refusal-append-given given (later ed f) (firstRefusal given) (omega (arith, six-some)) refl
+
+  unread : (frameRefusal ed f ≢ 0) × (frameRefusal ed f ≤ 6)
+  unfolding six earlier
+  unread = (λ z. six-some (sym until-six ∙ z), omega (arith, until-six, refusal-most 6 six refl))
+
+-- a frame that two editions refuse with one number is answered alike
+refused-alike : (ed other : Edition) (f : List ℕ) (n : ℕ) → n ≢ 0 → frameRefusal ed f ≡ n → frameRefusal other f ≡ n → FrameAlike ed other f
+unfolding readOf judgeOf cleanedOf placesIn
+refused-alike ed other f n z a b = record { read = rw (a, b, ne-eqb n 0 z); judged = rw (a, b, ne-eqb n 0 z); cleaned = rw (a, b, ne-eqb n 0 z) }
+
+first-frame : (other : Edition) (f : List ℕ) → frameRefusal First f ≢ 6 → FrameAlike First other f
+unfolding earlier
+first-frame other f h = go (eqb i 5) (eqb i 6) refl refl
+  where
+    i : ℕ
+    i = identificationIn (repairOf f .word)
+
+    -- 5 or 6: a test before 6 is met
+    before : (i ≡ 5) ⊎ (i ≡ 6) → (t : Bool) → eqb (firstRefusal (earlier f)) 0 ≡ t → FrameAlike First other f
+    before s true q =
+        let none = refusal-none (earlier f) refl (eqb-true (firstRefusal (earlier f)) 0 q) in
+        absurd
+        (h
+        (by-six First f ∙ refusal-append-none (earlier f) _ none ∙ refusal-here 6 _ (ap isUndefined (safety-class i s .0))))
+    before s false q =
+        let n = firstRefusal (earlier f) in
+        let z : n ≢ 0 = eqb-false n 0 q in
+        refused-alike First other f n z (by-six First f ∙ refusal-append-given (earlier f) _ n (omega (arith, z)) refl)
+        (by-six other f ∙ refusal-append-given (earlier f) _ n (omega (arith, z)) refl)
+
+    go : (s t : Bool) → eqb i 5 ≡ s → eqb i 6 ≡ t → FrameAlike First other f
+    go true t a b = before (inl (eqb-true i 5 a)) (eqb (firstRefusal (earlier f)) 0) refl
+    go false true a b = before (inr (eqb-true i 6 b)) (eqb (firstRefusal (earlier f)) 0) refl
+    go false false a b = frame-alike First other f (eqb-false i 5 a, eqb-false i 6 b)
+
+first-record : (other : Edition) (r : Record) → recordRefusal First r ≢ 6 → RecordAlike First other r
+first-record other r h =
+    let other-than : (r .identification ≡ 5) ⊎ (r .identification ≡ 6) → ⊥ = λ s. h (unwritten First r (safety-class (r .identification) s .0)) in
+    record-alike First other r ((λ z. other-than (inl z)), (λ z. other-than (inr z)))
+
+-- ---- start/end and update of an accepted frame
+
+module _ (ed : Edition) (f : List ℕ) (r : Record) (d : Damage) (e : readOf ed f ≡ Accepted r d) where
+  read-start-end : fieldAt (cleanOf f) 17 2 ≡ cond (eqb (r .identification) 7) 3 0
+  read-start-end =
+      let c = classOf ed (r .identification) in
+      ap (λ (g : List ℕ). fieldAt g 17 2) (sym (demand2 ed .written-again f r d e))
+      ∙ ap value (own-parts ed r (frameOf ed r) (length-frame ed r) (parts-frame ed r .word) .start)
+      ∙ value-bitsOf-fit 2 (startEndOf c) (start-lt c)
+      ∙ table-start-end ed (r .identification)
+
+  read-update : fieldAt (cleanOf f) 19 2 ≡ cond (eqb (r .identification) 7) 3 (r .update)
+  read-update =
+      let c = classOf ed (r .identification) in
+      let b = recordBody ed r in
+      let sound = legal-sound ed r (demand2 ed .read-legal f r d e) in
+      ap (λ (g : List ℕ). fieldAt g 19 2) (sym (demand2 ed .written-again f r d e))
+      ∙ ap value (own-parts ed r (frameOf ed r) (length-frame ed r) (parts-frame ed r .word) .update)
+      ∙ value-bitsOf-fit 2 (updateOf c (r .update)) (update-lt b r (chosen c (r .page) (r .kind)) (own-update b r (sound .fit)))
+      ∙ table-update ed (r .identification) (r .update)
 
 pub editions : Editions
 unfolding classOf
@@ -88,51 +161,12 @@ editions =
       first = refl;
       area-safety = refl;
       beyond = beyond;
+      unwritten = unwritten;
+      unread = unread;
       frame-alike = frame-alike;
       record-alike = record-alike;
-      start-end = begins-with;
-      first-unwritten = first-unwritten;
-      first-unread = first-unread;
+      first-frame = first-frame;
+      first-record = first-record;
+      start-end = read-start-end;
+      update = read-update;
     }
-
--- ---- area safety information
-
-safety-body : (ed : Edition) (r : Record) → classOf ed (r .identification) ≡ Safety → recordBody ed r ≡ SafetyInformation
-safety-body ed r s = rw s
-
-in-details : (r : Record) → packSegments (layout SafetyInformation) (bodyValues SafetyInformation r) ≡ bitsOf 31 (r .time) ++ bitsOf 57 (r .region)
-unfolding row layout gather bodyValues widths withFixed pack
-in-details r = ap (bitsOf 31 (r .time) ++_) (append-nil (bitsOf 57 (r .region)))
-
-details : (ed : Edition) (f : List ℕ) (r : Record) (d : Damage) → readOf ed f ≡ Accepted r d → classOf ed (r .identification) ≡ Safety
-    → detailsIn (cleanOf f) ≡ bitsOf 31 (r .time) ++ bitsOf 57 (r .region)
-details ed f r d e s =
-    ap detailsIn (sym (demand2 ed .written-again f r d e))
-    ∙ own-parts ed r (frameOf ed r) (length-frame ed r) (parts-frame ed r .word) .details
-    ∙ ap (λ (b : Body). packSegments (layout b) (bodyValues b r)) (safety-body ed r s)
-    ∙ in-details r
-
-fit : (t g : ℕ) → t < 2 ^ 31 → g < 2 ^ 57 → Fit (freeWidths (layout SafetyInformation)) (t ∷ g ∷ [])
-unfolding row layout freeWidths
-fit t g ht hg = (ht, (hg, tt))
-
-three-bits : (i : ℕ) → (i ≡ 5) ⊎ (i ≡ 6) → i < 8
-three-bits i (inl e) = omega arith
-three-bits i (inr e) = omega arith
-
-legal : (x p i u t g : ℕ) → x < 2 → p < 2 → (i ≡ 5) ⊎ (i ≡ 6) → u < 4 → t < 2 ^ 31 → g < 2 ^ 57 → Legal AreaSafety (safetyRecord x p i u t g)
-legal x p i u t g hx hp hi hu ht hg =
-    let vs : List ℕ = t ∷ g ∷ [] in
-    let r = safetyRecord x p i u t g in
-    let class : classOf AreaSafety (r .identification) ≡ Safety =
-    ap (classOf AreaSafety) (taken SafetyInformation x p i u vs .identification) ∙ safety-class i hi .1 in
-    let body = safety-body AreaSafety r class in
-    sound-legal AreaSafety r
-    (record {
-      known = ap isUndefined class;
-      fit = rw body (record-fit SafetyInformation x p i u vs hx hp (three-bits i hi) hu (fit t g ht hg));
-      limits = rw body;
-    })
-
-pub carried-whole : CarriedWhole
-carried-whole = record { details = details; legal = legal }

@@ -35,33 +35,33 @@ use Rattle.frame.specs.Promises.{SameOutside, HitPart}
 use Rattle.frame.specs.Write.{Legal, announced, messageBits, frameOf}
 use Rattle.frame.specs.declared.Edition.{Edition}
 use Rattle.frame.specs.declared.Class.{Class}
-use Rattle.frame.specs.declared.Class.the-variants.{Warning, Safety, Silent, Undefined}
+use Rattle.frame.specs.declared.Class.the-variants.{Warning, SafetyInformation, Silent, Undefined}
 use Rattle.frame.specs.declared.Body.{Body}
-use Rattle.frame.specs.declared.Body.the-variants.{AreaPage, PlacePage, CancelPage, SafetyInformation, NoInformation}
+use Rattle.frame.specs.declared.Body.the-variants.{AreaPage, PlacePage, CancelPage, SafetyDetails, NoInformation}
 use Rattle.frame.specs.declared.Record.{Record}
 use Rattle.frame.proofs.Parts.{regroup, inner-part, FrameParts, frame-parts, WordParts, word-parts}
 use Rattle.frame.proofs.Bodies.{layout-sum, Chosen, area, place, cancel, safety, silent, undefined, chosen, legal-sound, heads, own-update, body-fit, body-record, body-again, taken}
 
 -- ---- the fields that every legal record has
 
-update-lt : (b : Body) (r : Record) {c : Class} → Chosen c (r .page) (r .kind) b → r .update < 2 ^ ownUpdate b 2 → updateOf c (r .update) < 4
+pub update-lt : (b : Body) (r : Record) {c : Class} → Chosen c (r .page) (r .kind) b → r .update < 2 ^ ownUpdate b 2 → updateOf c (r .update) < 4
 update-lt AreaPage r (area n) h = h
 update-lt PlacePage r (place p n) h = h
 update-lt CancelPage r (cancel p k) h = h
-update-lt SafetyInformation r safety h = h
+update-lt SafetyDetails r safety h = h
 update-lt NoInformation r silent h = omega arith
 update-lt NoInformation r undefined h = omega arith
 
 pub start-lt : (c : Class) → startEndOf c < 4
 start-lt Warning = omega arith
-start-lt Safety = omega arith
+start-lt SafetyInformation = omega arith
 start-lt Silent = omega arith
 start-lt Undefined = omega arith
 
 -- start/end and update as the class asks
 flags-right : (c : Class) (u : ℕ) → flagsWrong c (startEndOf c) (updateOf c u) ≡ false
 flags-right Warning u = rw (eq-eqb u u refl)
-flags-right Safety u = rw (eq-eqb u u refl)
+flags-right SafetyInformation u = rw (eq-eqb u u refl)
 flags-right Silent u = refl
 flags-right Undefined u = rw (eq-eqb u u refl)
 

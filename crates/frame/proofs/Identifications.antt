@@ -1,4 +1,4 @@
--- Laws of the table of identifications: what the editions share, and what they do not. Here alone they are looked at one by one. Assumes nothing.
+-- Laws of the table of identifications: what the editions share, and what they do not. No other law looks at them one by one. Assumes nothing.
 use mathlib.Core.Path.{_≡_, refl, sym, ap, _∙_}
 use mathlib.Core.Bool.{Bool, true, false, cond, _||_}
 use mathlib.Core.Logic.{_⊎_, inl, inr}
@@ -6,11 +6,11 @@ use Prim.Native.Nat.{ℕ, _≤_, _<_}
 use native.Mathlib.Omega.{arith}
 use lib.Dec.{eqb, leb}
 use borrow.Author.Tests.{eqb-true, ne-eqb, le-leb, lt-leb, leb-true}
-use Rattle.frame.specs.Identification.{schedule1, classOf, startEndOf}
+use Rattle.frame.specs.Identification.{schedule1, classOf, startEndOf, updateOf}
 use Rattle.frame.specs.Promises.{NotSafety}
 use Rattle.frame.specs.declared.Edition.{Edition}
 use Rattle.frame.specs.declared.Edition.the-variants.{First, AreaSafety}
-use Rattle.frame.specs.declared.Class.the-variants.{Warning, Safety, Silent, Undefined}
+use Rattle.frame.specs.declared.Class.the-variants.{Warning, SafetyInformation, Silent, Undefined}
 
 neither : (i : ℕ) → NotSafety i → (eqb i 5 || eqb i 6) ≡ false
 neither i n = rw (ne-eqb i 5 (n .0), ne-eqb i 6 (n .1))
@@ -19,7 +19,7 @@ neither i n = rw (ne-eqb i 5 (n .0), ne-eqb i 6 (n .1))
 in-schedule1 : (ed : Edition) (i : ℕ) → NotSafety i → classOf ed i ≡ schedule1 i
 unfolding classOf
 in-schedule1 First i n = refl
-in-schedule1 AreaSafety i n = ap (λ (t : Bool). cond t Safety (schedule1 i)) (neither i n)
+in-schedule1 AreaSafety i n = ap (λ (t : Bool). cond t SafetyInformation (schedule1 i)) (neither i n)
 
 pub class-alike : (ed other : Edition) (i : ℕ) → NotSafety i → classOf ed i ≡ classOf other i
 class-alike ed other i n = in-schedule1 ed i n ∙ sym (in-schedule1 other i n)
@@ -34,13 +34,13 @@ pub silent-class : (ed : Edition) → classOf ed 7 ≡ Silent
 silent-class ed = in-schedule1 ed 7 ((λ e. omega arith), (λ e. omega arith))
 
 -- 5 and 6
-pub safety-class : (i : ℕ) → (i ≡ 5) ⊎ (i ≡ 6) → (classOf First i ≡ Undefined) × (classOf AreaSafety i ≡ Safety)
+pub safety-class : (i : ℕ) → (i ≡ 5) ⊎ (i ≡ 6) → (classOf First i ≡ Undefined) × (classOf AreaSafety i ≡ SafetyInformation)
 unfolding classOf
 safety-class i (inl e) = rw e (refl, refl)
 safety-class i (inr e) = rw e (refl, refl)
 
-early-start : (i : ℕ) → startEndOf (schedule1 i) ≡ cond (eqb i 7) 3 0
-early-start i = go (leb i 3) (eqb i 7) refl refl
+schedule1-start : (i : ℕ) → startEndOf (schedule1 i) ≡ cond (eqb i 7) 3 0
+schedule1-start i = go (leb i 3) (eqb i 7) refl refl
   where
     go : (s t : Bool) → leb i 3 ≡ s → eqb i 7 ≡ t → startEndOf (cond s Warning (cond t Silent Undefined)) ≡ cond t 3 0
     go true true e f = let h = leb-true i 3 e in let k = eqb-true i 7 f in absurd (omega arith)
@@ -49,12 +49,32 @@ early-start i = go (leb i 3) (eqb i 7) refl refl
     go false false e f = refl
 
 -- start/end, by the identification: 11 for 7, else 00
-pub start-end : (ed : Edition) (i : ℕ) → startEndOf (classOf ed i) ≡ cond (eqb i 7) 3 0
+pub table-start-end : (ed : Edition) (i : ℕ) → startEndOf (classOf ed i) ≡ cond (eqb i 7) 3 0
 unfolding classOf
-start-end First i = early-start i
-start-end AreaSafety i = go (eqb i 5) (eqb i 6) refl refl
+table-start-end First i = schedule1-start i
+table-start-end AreaSafety i = go (eqb i 5) (eqb i 6) refl refl
   where
-    go : (s t : Bool) → eqb i 5 ≡ s → eqb i 6 ≡ t → startEndOf (cond (s || t) Safety (schedule1 i)) ≡ cond (eqb i 7) 3 0
+    go : (s t : Bool) → eqb i 5 ≡ s → eqb i 6 ≡ t → startEndOf (cond (s || t) SafetyInformation (schedule1 i)) ≡ cond (eqb i 7) 3 0
     go true t e f = ap (λ (n : ℕ). cond (eqb n 7) 3 0) (sym (eqb-true i 5 e))
     go false true e f = ap (λ (n : ℕ). cond (eqb n 7) 3 0) (sym (eqb-true i 6 f))
-    go false false e f = early-start i
+    go false false e f = schedule1-start i
+
+-- update: 11 for 7, else the frame's own
+schedule1-update : (i u : ℕ) → updateOf (schedule1 i) u ≡ cond (eqb i 7) 3 u
+schedule1-update i u = go (leb i 3) (eqb i 7) refl refl
+  where
+    go : (s t : Bool) → leb i 3 ≡ s → eqb i 7 ≡ t → updateOf (cond s Warning (cond t Silent Undefined)) u ≡ cond t 3 u
+    go true true e f = let h = leb-true i 3 e in let k = eqb-true i 7 f in absurd (omega arith)
+    go true false e f = refl
+    go false true e f = refl
+    go false false e f = refl
+
+pub table-update : (ed : Edition) (i u : ℕ) → updateOf (classOf ed i) u ≡ cond (eqb i 7) 3 u
+unfolding classOf
+table-update First i u = schedule1-update i u
+table-update AreaSafety i u = go (eqb i 5) (eqb i 6) refl refl
+  where
+    go : (s t : Bool) → eqb i 5 ≡ s → eqb i 6 ≡ t → updateOf (cond (s || t) SafetyInformation (schedule1 i)) u ≡ cond (eqb i 7) 3 u
+    go true t e f = ap (λ (n : ℕ). cond (eqb n 7) 3 u) (sym (eqb-true i 5 e))
+    go false true e f = ap (λ (n : ℕ). cond (eqb n 7) 3 u) (sym (eqb-true i 6 f))
+    go false false e f = schedule1-update i u

@@ -7,4 +7,5 @@ pub mod Areas
 pub mod Readings
 pub mod Promises
 pub mod Editions
+pub mod CarriedWhole
 pub mod Worked

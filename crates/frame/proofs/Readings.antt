@@ -35,7 +35,7 @@ use Rattle.frame.specs.Write.{Legal, announced, messageBits}
 use Rattle.frame.specs.declared.Edition.{Edition}
 use Rattle.frame.specs.declared.Class.{Class}
 use Rattle.frame.specs.declared.Body.{Body}
-use Rattle.frame.specs.declared.Body.the-variants.{AreaPage, PlacePage, CancelPage, SafetyInformation, NoInformation}
+use Rattle.frame.specs.declared.Body.the-variants.{AreaPage, PlacePage, CancelPage, SafetyDetails, NoInformation}
 use Rattle.frame.specs.declared.Damage.{Damage}
 use Rattle.frame.specs.declared.Reading.the-variants.{Accepted}
 use Rattle.frame.proofs.Parts.{regroup, inner-part, part-split, part-bits, length-part, frame-bits, word-split}
@@ -47,7 +47,7 @@ update-again : (b : Body) (u : ℕ) {c : Class} {page kind : ℕ} → Chosen c p
 update-again AreaPage u (area n) d e = refl
 update-again PlacePage u (place q n) d e = refl
 update-again CancelPage u (cancel q k) d e = refl
-update-again SafetyInformation u safety d e = refl
+update-again SafetyDetails u safety d e = refl
 update-again NoInformation u silent d e = sym e
 update-again NoInformation u undefined d e = absurd (true≢false d)
 

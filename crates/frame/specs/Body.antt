@@ -6,14 +6,14 @@ use lib.Dec.{eqb}
 use Rattle.bits.specs.Segment.{Segment, width}
 use Rattle.frame.specs.Entry.{Entry, ones, segmentOf, segmentsOf, indicesOf, time, page, areas, total, item, number, kind, south, latitude, west, longitude, depth, occurred, broadcaster, region}
 use Rattle.frame.specs.declared.Class.{Class}
-use Rattle.frame.specs.declared.Class.the-variants.{Warning, Safety, Silent, Undefined}
+use Rattle.frame.specs.declared.Class.the-variants.{Warning, SafetyInformation, Silent, Undefined}
 use Rattle.frame.specs.declared.Body.{Body}
-use Rattle.frame.specs.declared.Body.the-variants.{AreaPage, PlacePage, CancelPage, SafetyInformation, NoInformation}
+use Rattle.frame.specs.declared.Body.the-variants.{AreaPage, PlacePage, CancelPage, SafetyDetails, NoInformation}
 
 -- the body, by the class, the page, B55, and the kind, B67
 abbrev pub bodyOf : Class → (page kind : ℕ) → Body
 bodyOf Warning page kind = cond (eqb page 1) (cond (eqb kind 1) CancelPage PlacePage) AreaPage
-bodyOf Safety page kind = SafetyInformation
+bodyOf SafetyInformation page kind = SafetyDetails
 bodyOf Silent page kind = NoInformation
 bodyOf Undefined page kind = NoInformation
 
@@ -24,7 +24,7 @@ row PlacePage = time ∷ page ∷ total ∷ item ∷ number ∷ kind ∷ south �
 -- B68 to B110 all 1, and B111
 row CancelPage = time ∷ page ∷ total ∷ item ∷ number ∷ kind ∷ ones 43 ∷ ones 1 ∷ []
 -- all 88 bits are carried
-row SafetyInformation = time ∷ region ∷ []
+row SafetyDetails = time ∷ region ∷ []
 -- B24 to B55 all 1, B67 to B111 all 1
 row NoInformation = ones 32 ∷ broadcaster ∷ ones 45 ∷ []
 
@@ -46,5 +46,5 @@ abbrev pub ownUpdate : Body → ℕ → ℕ
 ownUpdate AreaPage u = u
 ownUpdate PlacePage u = u
 ownUpdate CancelPage u = u
-ownUpdate SafetyInformation u = u
+ownUpdate SafetyDetails u = u
 ownUpdate NoInformation u = 0

@@ -9,7 +9,7 @@ use Rattle.bits.specs.Segment.{freeWidths}
 use Rattle.frame.specs.Identification.{classOf}
 use Rattle.frame.specs.declared.Edition.{Edition}
 use Rattle.frame.specs.declared.Body.{Body}
-use Rattle.frame.specs.declared.Body.the-variants.{AreaPage, PlacePage, CancelPage, SafetyInformation, NoInformation}
+use Rattle.frame.specs.declared.Body.the-variants.{AreaPage, PlacePage, CancelPage, SafetyDetails, NoInformation}
 use Rattle.frame.specs.Body.{bodyOf, layout, indices, ownUpdate}
 use Rattle.frame.specs.declared.Record.{Record}
 
@@ -91,5 +91,5 @@ abbrev pub overLimit : Body → (latitude longitude : ℕ) → Bool
 overLimit AreaPage latitude longitude = false
 overLimit PlacePage latitude longitude = ltb 900 latitude || ltb 1800 longitude
 overLimit CancelPage latitude longitude = false
-overLimit SafetyInformation latitude longitude = false
+overLimit SafetyDetails latitude longitude = false
 overLimit NoInformation latitude longitude = false

@@ -16,7 +16,7 @@ pub fn field_widths(body: Body) -> [usize; FIELDS]
         Body::AreaPage => [1, 1, 3, 2, 31, 1, 56, 0, 0, 0, 0, 0, 0, 0, 0, 0, 0, 0, 0],
         Body::PlacePage => [1, 1, 3, 2, 31, 1, 0, 1, 1, 9, 1, 1, 10, 1, 11, 10, 10, 0, 0],
         Body::CancelPage => [1, 1, 3, 2, 31, 1, 0, 1, 1, 9, 1, 0, 0, 0, 0, 0, 0, 0, 0],
-        Body::SafetyInformation => [1, 1, 3, 2, 31, 0, 0, 0, 0, 0, 0, 0, 0, 0, 0, 0, 0, 0, 57],
+        Body::SafetyDetails => [1, 1, 3, 2, 31, 0, 0, 0, 0, 0, 0, 0, 0, 0, 0, 0, 0, 0, 57],
         Body::NoInformation => [1, 1, 3, 0, 0, 0, 0, 0, 0, 0, 0, 0, 0, 0, 0, 0, 0, 11, 0],
     }
 }
@@ -44,7 +44,7 @@ pub fn span_of(body: Body) -> Span
             before: 0,
             after: 44,
         },
-        Body::SafetyInformation => Span {
+        Body::SafetyDetails => Span {
             from: 4,
             to: 19,
             before: 0,
@@ -67,7 +67,7 @@ pub fn own_update(body: Body, update: u64) -> u64
         Body::AreaPage => update,
         Body::PlacePage => update,
         Body::CancelPage => update,
-        Body::SafetyInformation => update,
+        Body::SafetyDetails => update,
         Body::NoInformation => 0,
     }
 }

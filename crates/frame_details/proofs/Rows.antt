@@ -16,7 +16,7 @@ use Rattle.frame.specs.Body.{row, layout, ownUpdate}
 use Rattle.frame.specs.Span.{spanOf, between}
 use Rattle.frame.specs.Fields.{fields, recordFrom, gather, scatter, fieldWidths, bodyValues, recordOf}
 use Rattle.frame.specs.declared.Body.{Body}
-use Rattle.frame.specs.declared.Body.the-variants.{AreaPage, PlacePage, CancelPage, SafetyInformation, NoInformation}
+use Rattle.frame.specs.declared.Body.the-variants.{AreaPage, PlacePage, CancelPage, SafetyDetails, NoInformation}
 use Rattle.frame.specs.declared.Record.{Record}
 use Rattle.frame_details.specs.Details.{fieldsRead, onesHold}
 
@@ -27,7 +27,7 @@ unfolding row layout scatter fieldWidths freeWidths widths free unpack value spa
 record-read AreaPage x p i u d = refl
 record-read PlacePage x p i u d = refl
 record-read CancelPage x p i u d = refl
-record-read SafetyInformation x p i u d = refl
+record-read SafetyDetails x p i u d = refl
 record-read NoInformation x p i u d = refl
 
 -- the bits of a record, after those fixed at 1 and before the others
@@ -39,7 +39,7 @@ unfolding row layout scatter gather fieldWidths freeWidths widths withFixed pack
 details-packed AreaPage r = refl
 details-packed PlacePage r = refl
 details-packed CancelPage r = refl
-details-packed SafetyInformation r = refl
+details-packed SafetyDetails r = refl
 details-packed NoInformation r = refl
 
 -- 43 bits and one, all 1, as 44
@@ -76,7 +76,7 @@ fixed-bits CancelPage d e =
     ap (λ (k : List Bool). eqb (value (take 43 k)) (2 ^ 43 - 1) && (eqb (value (take 1 (drop 43 k))) (2 ^ 1 - 1) && true)) (after-cancel d)
     ∙ both-ones (value (take 43 l)) (value (take 1 (drop 43 l))) (value-take-lt 1 (drop 43 l))
     ∙ ap (λ (n : ℕ). eqb n (2 ^ 44 - 1)) (two-values l (omega (arith, length-drop 44 d)))
-fixed-bits SafetyInformation d e = refl
+fixed-bits SafetyDetails d e = refl
 fixed-bits NoInformation d e =
     ap (λ (t : Bool). eqb (value (take 32 d)) (2 ^ 32 - 1) && t)
     (and-true _ ∙ ap (λ (l : List Bool). eqb (value (take 45 l)) (2 ^ 45 - 1)) (drop-drop 11 32 d))

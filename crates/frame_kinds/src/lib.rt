@@ -9,7 +9,7 @@ use frame::Class;
 use frame::Edition;
 use frame::Record;
 
-// What an identification announces in every edition, where it is not 5 or 6.
+// Schedule 1: what an identification announces in the first edition, and in every other where it is not 5 or 6.
 fn schedule1(identification: u64) -> Class
     ensures { λ r. ⌜ r ≡ schedule1 identification ⌝ }
 {
@@ -29,10 +29,10 @@ pub fn class_of(edition: Edition, identification: u64) -> Class
         Edition::First => schedule1(identification),
         Edition::AreaSafety => {
             if identification == 5 {
-                return Class::Safety;
+                return Class::SafetyInformation;
             }
             if identification == 6 {
-                return Class::Safety;
+                return Class::SafetyInformation;
             }
             schedule1(identification)
         }
@@ -52,7 +52,7 @@ pub fn body_of(class: Class, page: u64, kind: u64) -> Body
             }
             Body::PlacePage
         }
-        Class::Safety => Body::SafetyInformation,
+        Class::SafetyInformation => Body::SafetyDetails,
         Class::Silent => Body::NoInformation,
         Class::Undefined => Body::NoInformation,
     }
@@ -63,7 +63,7 @@ pub fn is_undefined(class: Class) -> bool
 {
     match class {
         Class::Warning => false,
-        Class::Safety => false,
+        Class::SafetyInformation => false,
         Class::Silent => false,
         Class::Undefined => true,
     }
@@ -75,7 +75,7 @@ pub fn flags_wrong(class: Class, start: u64, update: u64) -> bool
 {
     match class {
         Class::Warning => start != 0,
-        Class::Safety => start != 0,
+        Class::SafetyInformation => start != 0,
         Class::Silent => {
             if start != 3 {
                 return true;
@@ -99,7 +99,7 @@ pub fn over_limit(body: Body, latitude: u64, longitude: u64) -> bool
             1800 < longitude
         }
         Body::CancelPage => false,
-        Body::SafetyInformation => false,
+        Body::SafetyDetails => false,
         Body::NoInformation => false,
     }
 }

@@ -16,7 +16,7 @@ fn start_end(class: Class) -> u64
 {
     match class {
         Class::Warning => 0,
-        Class::Safety => 0,
+        Class::SafetyInformation => 0,
         Class::Silent => 3,
         Class::Undefined => 0,
     }
@@ -27,7 +27,7 @@ fn update_of(class: Class, update: u64) -> u64
 {
     match class {
         Class::Warning => update,
-        Class::Safety => update,
+        Class::SafetyInformation => update,
         Class::Silent => 3,
         Class::Undefined => update,
     }

@@ -8,9 +8,11 @@ use lib.Seq.{take-all, take-append-le, drop-append-le, take-at, drop-at}
 use Rattle.bits.specs.Refusal.{firstRefusal}
 use Rattle.frame.specs.Read.{judgeOf, frameRefusal, placesIn}
 use Rattle.frame.specs.declared.Edition.{Edition}
+use Rattle.frame.specs.declared.Verdict.{Verdict}
+use Rattle.frame.proofs.Editions.{editions}
 use Rattle.decimals.specs.Decimal.{digits}
 use Rattle.listing.specs.Lines.{lineOf, endLine, pieceCount, lines, listingOf}
-use Rattle.listing.specs.Promises.{Listing}
+use Rattle.listing.specs.Promises.{NoneSafety, Listing}
 use Rattle.listing.proofs.LineLengths.{line-short}
 
 module _ (ed : Edition) where
@@ -89,5 +91,13 @@ module _ (ed : Edition) where
       let n : length (f ++ x) ≡ 31 = omega (arith, length-append f x) in
       rw (n, take-at f x 26 h, drop-at f x 26 h, take-all 26 x (omega arith), accepted-line f a b, short-line x k)
 
+  -- ---- another edition
+
+  alike : (other : Edition) (k n : ℕ) (s : List ℕ) → NoneSafety k s → lines ed k n s ≡ lines other k n s
+  unfolding NoneSafety lines
+  alike other zero n s h = refl
+  alike other (suc k) n s h =
+      ap₂ (λ (v : Verdict) (l : List ℕ). lineOf n v ++ l) (editions .frame-alike ed other (take 26 s) (h .0) .judged) (alike other k (n + 1) (drop 26 s) (h .1))
+
   pub listing-laws : Listing ed
-  listing-laws = record { empty = empty; example = example; turns = turns; stops = stops; line-short = line-short ed }
+  listing-laws = record { empty = empty; example = example; turns = turns; stops = stops; line-short = line-short ed; alike = alike }

@@ -14,7 +14,7 @@ use Rattle.frame.specs.Fields.{scatter, fields, fieldWidths, recordBody, overLi
 use Rattle.frame.specs.Write.{Legal, recordRefusal}
 use Rattle.frame.specs.declared.Edition.{Edition}
 use Rattle.frame.specs.declared.Body.{Body}
-use Rattle.frame.specs.declared.Body.the-variants.{AreaPage, PlacePage, CancelPage, SafetyInformation, NoInformation}
+use Rattle.frame.specs.declared.Body.the-variants.{AreaPage, PlacePage, CancelPage, SafetyDetails, NoInformation}
 use Rattle.frame.specs.declared.Record.{Record}
 use Rattle.frame.proofs.Indices.{fit-at}
 use Rattle.frame.proofs.Bodies.{legal-sound, sound-legal}
@@ -99,7 +99,7 @@ module _ (ed : Edition) (r : Record) (p : Place) where
   by-body : (b : Body) → recordBody ed r ≡ b → reportedBy b r ≡ reportsPlace p → (recordBody ed r ≡ PlacePage) × (placeOf (placeFields r) ≡ p)
   by-body AreaPage e q = let z : _≡_ {A = ℕ} 0 1 = cc in absurd (omega arith)
   by-body CancelPage e q = let z : _≡_ {A = ℕ} 0 1 = cc in absurd (omega arith)
-  by-body SafetyInformation e q = let z : _≡_ {A = ℕ} 0 1 = cc in absurd (omega arith)
+  by-body SafetyDetails e q = let z : _≡_ {A = ℕ} 0 1 = cc in absurd (omega arith)
   by-body NoInformation e q = let z : _≡_ {A = ℕ} 0 1 = cc in absurd (omega arith)
   by-body PlacePage e q =
       let o = placeOf (placeFields r) in

@@ -10,7 +10,7 @@ use Rattle.frame.specs.Write.{Legal, recordRefusal}
 use Rattle.frame.specs.Promises.{NotSafety}
 use Rattle.frame.specs.declared.Edition.{Edition}
 use Rattle.frame.specs.declared.Body.{Body}
-use Rattle.frame.specs.declared.Body.the-variants.{AreaPage, PlacePage, CancelPage, SafetyInformation, NoInformation}
+use Rattle.frame.specs.declared.Body.the-variants.{AreaPage, PlacePage, CancelPage, SafetyDetails, NoInformation}
 use Rattle.frame.specs.declared.Record.{Record}
 use Rattle.frame.proofs.Identifications.{class-alike}
 use Rattle.frame.proofs.Editions.{editions}
@@ -29,14 +29,14 @@ body-number : (b : Body) (r : Record) → reportNumber (reportedBy b r) ≡ 0
 body-number AreaPage r = refl
 body-number PlacePage r = refl
 body-number CancelPage r = refl
-body-number SafetyInformation r = refl
+body-number SafetyDetails r = refl
 body-number NoInformation r = refl
 
 body-told : (b : Body) (r : Record) → b ≢ PlacePage → reportDoubles (reportedBy b r) ≡ []
 body-told AreaPage r n = refl
 body-told PlacePage r n = absurd (n refl)
 body-told CancelPage r n = refl
-body-told SafetyInformation r n = refl
+body-told SafetyDetails r n = refl
 body-told NoInformation r n = refl
 
 module _ (ed : Edition) where
@@ -93,7 +93,7 @@ module _ (ed : Edition) where
       record {
         numbered = numbered;
         nothing = by NoInformation;
-        safety = by SafetyInformation;
+        safety = by SafetyDetails;
         areas-only = by AreaPage;
         cancellation = by CancelPage;
         place = by PlacePage;

@@ -6,7 +6,7 @@ use Rattle.frame.specs.Fields.{recordBody}
 use Rattle.frame.specs.Write.{Legal, recordRefusal}
 use Rattle.frame.specs.Promises.{NotSafety}
 use Rattle.frame.specs.declared.Edition.{Edition}
-use Rattle.frame.specs.declared.Body.the-variants.{AreaPage, PlacePage, CancelPage, SafetyInformation, NoInformation}
+use Rattle.frame.specs.declared.Body.the-variants.{AreaPage, PlacePage, CancelPage, SafetyDetails, NoInformation}
 use Rattle.frame.specs.declared.Record.{Record}
 use Rattle.place.specs.Degrees.{degreesOf, kilometresOf, placeOf}
 use Rattle.place.specs.Desk.{SameBits, conversionOf}
@@ -57,7 +57,7 @@ pub record Reports (ed : Edition) : Type 0 where
   pub nothing : (r : Record) → Legal ed r → recordBody ed r ≡ NoInformation → reportOf ed r ≡ reported.Nothing
   pub areas-only : (r : Record) → Legal ed r → recordBody ed r ≡ AreaPage → reportOf ed r ≡ reported.AreasOnly
   pub cancellation : (r : Record) → Legal ed r → recordBody ed r ≡ CancelPage → reportOf ed r ≡ reported.Cancellation
-  pub safety : (r : Record) → Legal ed r → recordBody ed r ≡ SafetyInformation → reportOf ed r ≡ reported.Safety
+  pub safety : (r : Record) → Legal ed r → recordBody ed r ≡ SafetyDetails → reportOf ed r ≡ reported.Safety
   pub place : (r : Record) → Legal ed r → recordBody ed r ≡ PlacePage → reportOf ed r ≡ reportsPlace (placeOf (placeFields r))
   -- a place is told by its three doubles, each the image of its field value; no other report tells any
   pub place-told : (r : Record) → Legal ed r → recordBody ed r ≡ PlacePage

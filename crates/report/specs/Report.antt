@@ -8,7 +8,7 @@ use Rattle.frame.specs.Fields.{recordBody}
 use Rattle.frame.specs.Write.{recordRefusal}
 use Rattle.frame.specs.declared.Edition.{Edition}
 use Rattle.frame.specs.declared.Body.{Body}
-use Rattle.frame.specs.declared.Body.the-variants.{AreaPage, PlacePage, CancelPage, SafetyInformation, NoInformation}
+use Rattle.frame.specs.declared.Body.the-variants.{AreaPage, PlacePage, CancelPage, SafetyDetails, NoInformation}
 use Rattle.frame.specs.declared.Record.{Record}
 use Rattle.place.specs.Degrees.{degreesOf, kilometresOf}
 use Rattle.report.specs.declared.Reported.{Reported}
@@ -19,7 +19,7 @@ abbrev pub reportedBy : Body → Record → Reported
 reportedBy AreaPage r = AreasOnly
 reportedBy PlacePage r = Place (degreesOf (r .south) (r .latitude)) (degreesOf (r .west) (r .longitude)) (kilometresOf (r .depth))
 reportedBy CancelPage r = Cancellation
-reportedBy SafetyInformation r = Safety
+reportedBy SafetyDetails r = Safety
 reportedBy NoInformation r = Nothing
 
 -- what `report` answers: for a record that is not legal the writer's 6, 10 or 9

@@ -31,7 +31,7 @@ fn report_by(body: Body, message: Record) -> Reported
             depth: place_images::kilometres(message.depth),
         },
         Body::CancelPage => Reported::Cancellation,
-        Body::SafetyInformation => Reported::Safety,
+        Body::SafetyDetails => Reported::Safety,
         Body::NoInformation => Reported::Nothing,
     }
 }

@@ -17,7 +17,7 @@ use Rattle.frame.specs.declared.Edition.the-variants.{First}
 use Rattle.frame.specs.declared.Record.{Record}
 use Rattle.frame.specs.declared.Reading.the-variants.{Accepted, Refused}
 use Rattle.follower.specs.Follow.{stepOf}
-use Rattle.follower.specs.Promises.{Warns, Some}
+use Rattle.follower.specs.Promises.{Informs, Some}
 use Rattle.follower_events.specs.declared.Kind.{Kind}
 use Rattle.follower_events.specs.declared.Kind.the-variants.{Real, Test}
 use Rattle.follower_events.specs.declared.Event.the-variants.{Changed, Skipped}
@@ -48,10 +48,10 @@ pub record Examples : Type 0 where
   pub example8-not-written : (r : Record) → AtLatitude 901 r → recordRefusal First r ≡ 9
   pub example8-not-read : (r : Record) → AtLatitude 901 r → readOf First (frameOf First r) ≡ Refused 9
   pub example8-some : (n : ℕ) → n < 1024 → AtLatitude n (atLatitude n)
-  -- 9. update 3 then 0, same kind: "changed"; 0 then 3: "skipped"; there are such frames
-  pub example9-changed : (s : Follower) (f g : List ℕ) (k : Kind) → Warns First f k 3 → Warns First g k 0
+  -- 9. update 3 then 0, same kind: "changed"; 0 then 3: "skipped"; there are such frames, of each kind that the first edition has
+  pub example9-changed : (s : Follower) (f g : List ℕ) (k : Kind) → Informs First f k 3 → Informs First g k 0
       → stepOf First (stepOf First s f .next) g .event ≡ Changed
-  pub example9-skipped : (s : Follower) (f g : List ℕ) (k : Kind) → Warns First f k 0 → Warns First g k 3
+  pub example9-skipped : (s : Follower) (f g : List ℕ) (k : Kind) → Informs First f k 0 → Informs First g k 3
       → stepOf First (stepOf First s f .next) g .event ≡ Skipped
   pub example9-some : (u : ℕ) → u < 4 → Some First Real u × Some First Test u
   -- 10. 26 zero bytes: refusal 3

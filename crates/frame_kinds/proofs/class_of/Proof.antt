@@ -6,7 +6,7 @@ use borrow.Author.Tests.{ne-eqb}
 use Rattle.frame.specs.Identification.{schedule1, classOf}
 use Rattle.frame.specs.declared.Edition.{Edition}
 use Rattle.frame.specs.declared.Edition.the-variants.{First, AreaSafety}
-use Rattle.frame.specs.declared.Class.the-variants.{Safety}
+use Rattle.frame.specs.declared.Class.the-variants.{SafetyInformation}
 use Rattle.frame_kinds.proofs.class_of.Statement.{statement}
 use Rattle.frame_kinds.proofs.class_of.Tie as tie
 
@@ -16,12 +16,12 @@ first i e = rw e
 
 -- the area safety edition
 module _ {ed : Edition} (i : ℕ) (edition : ed ≡ AreaSafety) where
-  information : i ≡ 5 → Safety ≡ classOf ed i
+  information : i ≡ 5 → SafetyInformation ≡ classOf ed i
   unfolding classOf
   information five = rw (edition, five)
 
   module _ (other : i ≡ 5 → ⊥) where
-    its-test : i ≡ 6 → Safety ≡ classOf ed i
+    its-test : i ≡ 6 → SafetyInformation ≡ classOf ed i
     unfolding classOf
     its-test six = rw (edition, six)
 

@@ -18,7 +18,7 @@ module _ (b : Body) (latitude longitude : ℕ) (place : b ≡ PlacePage) where
   inside : latitude ≤ 900 → ltb 1800 longitude ≡ overLimit b latitude longitude
   inside h = rw (place, le-ltb 900 latitude h)
 
--- no other body has limits; said here, so that a limit is refused by the value that differs
+-- by the body that was found; said so, so that a limit on a body that has none is refused by the value that differs
 unlimited : {b k : Body} (latitude longitude : ℕ) → b ≡ k → overLimit k latitude longitude ≡ overLimit b latitude longitude
 unlimited latitude longitude e = ap (λ (y : Body). overLimit y latitude longitude) (sym e)
 

@@ -1,6 +1,6 @@
 -- `report::report_by` meets its contract. Assumes nothing.
 use borrow.Author.Needs.{needs}
-use Rattle.frame.specs.declared.Body.the-variants.{AreaPage, CancelPage, SafetyInformation, NoInformation}
+use Rattle.frame.specs.declared.Body.the-variants.{AreaPage, CancelPage, SafetyDetails, NoInformation}
 use Rattle.report.proofs.Cases.{body-reported, place-reported}
 use Rattle.report.proofs.report_by.Statement.{statement}
 use Rattle.report.proofs.report_by.Tie as tie
@@ -40,7 +40,7 @@ returns-3 : tie.Need-returns-3
 returns-3 c = body-reported (c .before .before .args .message) CancelPage (c .enum-told3 .given .1)
 
 returns-4 : tie.Need-returns-4
-returns-4 c = body-reported (c .before .before .args .message) SafetyInformation (c .enum-told4 .given .1)
+returns-4 c = body-reported (c .before .before .args .message) SafetyDetails (c .enum-told4 .given .1)
 
 returns-5 : tie.Need-returns-5
 returns-5 c = body-reported (c .before .before .args .message) NoInformation (c .enum-told5 .given .1)

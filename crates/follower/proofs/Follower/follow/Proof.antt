@@ -1,6 +1,6 @@
 -- `follower::Follower::follow` meets its contract. Assumes nothing.
 use borrow.Author.Needs.{needs}
-use Rattle.follower.proofs.Cases.{step-refused, step-silent, step-warned}
+use Rattle.follower.proofs.Cases.{step-refused, step-silent, step-informed}
 use Rattle.follower.proofs.Follower.follow.Statement.{statement}
 use Rattle.follower.proofs.Follower.follow.Tie as tie
 
@@ -19,8 +19,8 @@ enum-known-self c = search needs
 enum-known-seen-2 : tie.Need-enum-known-seen-2
 enum-known-seen-2 c = search needs
 
-warning-event-requires : tie.Need-warning-event-requires
-warning-event-requires c κs = search needs
+information-event-requires : tie.Need-information-event-requires
+information-event-requires c κs = search needs
 
 returns : tie.Need-returns
 returns c = step-refused _ _ _ (c .before .seen .given .1)
@@ -32,7 +32,7 @@ returns-3 : tie.Need-returns-3
 returns-3 c = step-silent _ _ _ (c .before .self .given .1) (c .before .before .before .enum-told .given .1)
 
 returns-4 : tie.Need-returns-4
-returns-4 c = step-warned _ _ _ _ _ (c .before .before .seen2 .given .1) (c .warning-event .ensures)
+returns-4 c = step-informed _ _ _ _ _ (c .before .before .seen2 .given .1) (c .information-event .ensures)
 
 pub follow-spec : {M : Type 1} → statement M
 follow-spec =
@@ -43,7 +43,7 @@ follow-spec =
     enum-told-2
     enum-known-self
     enum-known-seen-2
-    warning-event-requires
+    information-event-requires
     returns
     returns-2
     returns-3

@@ -1,8 +1,8 @@
--- `follower::warning_event` meets its contract. Assumes nothing.
+-- `follower::information_event` meets its contract. Assumes nothing.
 use mathlib.Core.Path.{sym, _∙_}
 use borrow.Author.Needs.{needs}
-use Rattle.follower.proofs.warning_event.Statement.{statement}
-use Rattle.follower.proofs.warning_event.Tie as tie
+use Rattle.follower.proofs.information_event.Statement.{statement}
+use Rattle.follower.proofs.information_event.Tie as tie
 
 enum-told : tie.Need-enum-told
 enum-told c = search needs
@@ -25,8 +25,8 @@ returns-2 c = search needs
 returns-3 : tie.Need-returns-3
 returns-3 c = rw (c .before .before .before .state .given .1, sym (c .before .same-kind .ensures) ∙ c .if1 .left)
 
-pub warning-event-spec : {M : Type 1} → statement M
-warning-event-spec =
+pub information-event-spec : {M : Type 1} → statement M
+information-event-spec =
     tie.close
     (tie.spec
     enum-told
