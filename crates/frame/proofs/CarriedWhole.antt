@@ -1,6 +1,6 @@
 -- The 88 detail bits of area safety information are carried whole. Assumes nothing.
 use mathlib.Core.Path.{_≡_, refl, sym, ap, _∙_, subst}
-use mathlib.Core.Bool.{Bool, true, false, cond}
+use mathlib.Core.Bool.{Bool, true, false, cond, not}
 use mathlib.Core.Logic.{_≢_, _⊎_, inl, inr}
 use mathlib.Core.List.{List, [], _∷_, _++_, append-nil}
 use Prim.Native.Nat.{ℕ, _^_, _≤_, _<_}
@@ -11,13 +11,13 @@ use borrow.Author.Tests.{eqb-true}
 use Rattle.bits.specs.Bits.{bitsOf}
 use Rattle.bits.specs.Layout.{Fit, pack, unpack}
 use Rattle.bits.specs.Refusal.{firstRefusal, orElse}
-use Rattle.bits.specs.Segment.{widths, freeWidths, fixedHold, withFixed, packSegments}
+use Rattle.bits.specs.Segment.{widths, freeWidths, fixedHold, withFixed, packSegments, fixedBitsHold}
 use Rattle.bits.proofs.Refusal.{none-refusal, refusal-append, refusal-most}
 use Rattle.dsc.specs.Repair.{repairOf}
 use Rattle.frame.specs.Identification.{classOf, isUndefined}
 use Rattle.frame.specs.Body.{row, layout}
-use Rattle.frame.specs.Fields.{fields, gather, scatter, fieldWidths, bodyValues, recordBody}
-use Rattle.frame.specs.Read.{classIn, bodyIn, detailsIn, frameTests, frameRefusal, readOf, cleanOf}
+use Rattle.frame.specs.Fields.{fields, gather, scatter, fieldWidths, bodyValues, recordBody, overLimit}
+use Rattle.frame.specs.Read.{classIn, bodyIn, detailsIn, recordIn, frameTests, frameRefusal, readOf, cleanOf}
 use Rattle.frame.specs.Write.{Legal, frameOf}
 use Rattle.frame.specs.Promises.{safetyRecord, CarriedWhole}
 use Rattle.frame.specs.declared.Edition.{Edition}
@@ -83,7 +83,10 @@ untested ed f e =
     let b : bodyIn ed c ≡ SafetyDetails = rw e in
     let ts = take 7 (frameTests ed f) in
     let us = drop 7 (frameTests ed f) in
-    let none : firstRefusal us ≡ 0 = none-refusal us (rw b, (rw b, tt)) in
+    let r = recordIn ed 0 0 c in
+    let none : firstRefusal us ≡ 0 =
+    none-refusal us
+    (ap (λ (y : Body). not (fixedBitsHold (layout y) (detailsIn c))) b, (ap (λ (y : Body). overLimit y (r .latitude) (r .longitude)) b, tt)) in
     let all : firstRefusal (ts ++ us) ≡ firstRefusal ts =
     refusal-append ts us refl ∙ ap (orElse (firstRefusal ts)) none ∙ or-none (firstRefusal ts) in
     omega (arith, all, refusal-most 7 ts refl)
