@@ -72,7 +72,7 @@ legal x p i u t g hx hp hi hu ht hg =
     (record {
       known = ap isUndefined class;
       fit = rw body (record-fit SafetyDetails x p i u vs hx hp (three-bits i hi) hu (fit t g ht hg));
-      limits = rw body;
+      limits = ap (λ (b : Body). overLimit b (r .latitude) (r .longitude)) body;
     })
 
 -- the tests of fixed bits and of limits

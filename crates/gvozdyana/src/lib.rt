@@ -1,10 +1,10 @@
 // What C and Rust programs call; include/gvozdyana.h declares it all.
 //
-// Every exported function takes any numbers and any bytes of any length; where a frame or record is judged, the first number names the edition (0 the first, 1 area
-// safety, any other is taken for the first). Most return a status: the refusal's number in the low 8 bits, 0 where there is none, and
-// above them what else they tell; gvz_capture_source, gvz_capture_numbers and gvz_crc32 refuse nothing and return their answer itself. A record, word, place or
-// field buffer whose length is wrong is refusal 1, before anything else is looked at, and a refusal leaves every lent buffer as it was. The definitions stand in the
-// specs/ of the crates that are called.
+// Every exported function takes any numbers and any bytes of any length; where a frame or record is judged, the first number names the edition (0 the
+// first, 1 area safety, any other is taken for the first). Most return a status: the refusal's number in the low 8 bits, 0 where there is none, and above
+// them what else they tell; gvz_capture_source, gvz_capture_numbers and gvz_crc32 refuse nothing and return their answer itself. A record, word, place or
+// field buffer whose length is wrong is refusal 1, before anything else is looked at, and a refusal leaves every lent buffer as it was. The definitions
+// stand in the specs/ of the crates that are called.
 ghost use mathlib.Core.Path.{_≡_};
 ghost use Rattle.abi_edition.specs.Edition.{editionOf};
 ghost use Rattle.abi_repair.specs.Repair.{repairStatus, repairWord};

@@ -1,4 +1,4 @@
-// Laying a warning frame into a header, by the edition named, and taking it out. The rules are those of `header_laying`.
+// Laying a frame into a header, by the edition named, and taking it out. The rules are those of `header_laying`.
 ghost use mathlib.Core.Path.{_≡_};
 ghost use lib.ListN.{length};
 ghost use Rattle.bits.specs.Bits.{bits};

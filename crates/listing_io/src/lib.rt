@@ -1,5 +1,5 @@
-// The listing of the frames on standard input, on standard output, by the edition named. What is read, and the text that is written, are proved in `listing_turns` and
-// `listing_pieces`; here is only the reading and writing, 2,520 frames at a time, so that the system is asked seldom.
+// The listing of the frames on standard input, on standard output, by the edition named. What is read, and the text that is written, are proved in
+// `listing_turns` and `listing_pieces`; here is only the reading and writing, 2,520 frames at a time, so that the system is asked seldom.
 ghost use mathlib.Core.Path.{_≡_};
 ghost use Prim.Native.Nat.{_≤_};
 ghost use lib.ListN.{length};

@@ -1,4 +1,5 @@
--- `follower_events::kind_number` meets its contract. `search` finds this too; the file is here so that another number is refused by the two that differ. Assumes nothing.
+-- `follower_events::kind_number` meets its contract. `search` finds this too; the file is here so that another number is refused by the two that differ.
+-- Assumes nothing.
 use mathlib.Core.Path.{sym, ap}
 use borrow.Author.Needs.{needs}
 use Rattle.follower_events.specs.Events.{kindNumber}

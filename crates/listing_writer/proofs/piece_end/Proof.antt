@@ -1,4 +1,5 @@
--- `listing_writer::piece_end` meets its contract. `search` finds this too; the file is here so that another end is refused by the numbers at which it differs. Assumes nothing.
+-- `listing_writer::piece_end` meets its contract. `search` finds this too; the file is here so that another end is refused by the numbers at which it
+-- differs. Assumes nothing.
 use native.Mathlib.Omega.{arith}
 use borrow.Author.Needs.{needs}
 use Rattle.listing_writer.proofs.piece_end.Statement.{statement}
