@@ -7,7 +7,7 @@ use Rattle.follower_events.specs.declared.Kind.the-variants.{Real, Test,
 use Rattle.follower_events.specs.declared.Event.{Event}
 use Rattle.follower_events.specs.declared.Event.the-variants as event
 
--- real (0, 1), test (2, 3), area safety information (5), its test (6)
+-- real (0, 1), test (2, 3), area safety information (5), its test (6); no other number is asked for its kind
 unfoldable pub kindOf : (identification : ℕ) → Kind
 kindOf i = cond (leb i 1) Real (cond (leb i 3) Test (cond (eqb i 5) Safety SafetyTest))
 

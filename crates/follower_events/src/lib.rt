@@ -20,6 +20,7 @@ pub enum Event {
     Refused(u8),
 }
 
+// The kind of an identification that has information; of another it is not asked.
 pub fn kind_of(identification: u64) -> Kind
     ensures { λ r. ⌜ r ≡ kindOf identification ⌝ }
 {
