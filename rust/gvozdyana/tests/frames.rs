@@ -70,7 +70,7 @@ fn compared(sample: &Sample, record_len: usize, before: &[u64], case: Case) -> [
 #[test]
 fn frames_of_all_sorts() {
     let mut seen = [[0; 16]; 2];
-    for_each_seed(11, frames() / 4, |random, case| {
+    for_each_seed(11, frames() / 2, |random, case| {
         let sample = frame(random);
         let record_len = length(19, random);
         let before = numbers(40, random);
@@ -89,7 +89,7 @@ fn frames_of_all_sorts() {
 
 #[test]
 fn legal_frames_hit_in_up_to_14_places() {
-    for_each_seed(12, frames() / 4, |random, case| {
+    for_each_seed(12, frames() / 2, |random, case| {
         let (_, edition) = random.pick(&EDITIONS);
         let sample = match random.below(3) {
             0 => faulty(edition, &[4], random),
@@ -224,7 +224,7 @@ fn write_by(edition: u32, values: &[u64], before: &[u8], case: Case) -> u8 {
 #[test]
 fn records_of_all_sorts_written() {
     let mut seen = [[0; 16]; 2];
-    for_each_seed(13, frames() / 4, |random, case| {
+    for_each_seed(13, frames() / 2, |random, case| {
         let mut values = record(random).to_vec();
         values.resize(length(19, random), 0);
         let frame_len = length(26, random);

@@ -187,7 +187,7 @@ fn asked(main: &[u8], spare: &[u8], n: u64, edition: u32, case: Case) -> [u32; 2
 #[test]
 fn captures_asked() {
     let mut seen = [[0; 3]; 3];
-    for_each_seed(33, frames() / 20, |random, case| {
+    for_each_seed(33, frames() / 10, |random, case| {
         let (main, spare) = (any_capture(random), any_capture(random));
         let n = any_frame_number(random);
         let edition = edition_number(random);

@@ -268,9 +268,7 @@ fn safety_followed() -> Vec<Case> {
 
 /// From the first state, and from states of any update number.
 fn stepped() -> Vec<Case> {
-    let mut frames = with_updates(&[0, 2, 5, 6]);
-    frames.push(("no information".to_owned(), written(7, 0, 5).to_vec()));
-    frames.push(("26 zeros".to_owned(), vec![0; 26]));
+    let frames = frames();
     let updates = [0, 1, 2, 3, 255, u64::MAX];
     let active = (1..=4).flat_map(|kind| updates.map(|update| [kind, update, 0]));
     let mut cases = vec![];
