@@ -186,7 +186,7 @@ module _ (ed : Edition) where
       let r = announcing i u in
       record {
         frame = frameOf ed r;
-        warns =
+        informing =
             record {
               message = r;
               damage = noDamage;

@@ -49,7 +49,7 @@ pub record SomeSilence (ed : Edition) : Type 0 where
 -- some frame has information of kind k with the update number u
 pub record Some (ed : Edition) (k : Kind) (u : ℕ) : Type 0 where
   pub frame : List ℕ
-  pub warns : Informs ed frame k u
+  pub informing : Informs ed frame k u
 
 -- the state after frames, and their events
 unfoldable pub stateAfter : Edition → Follower → List (List ℕ) → Follower
