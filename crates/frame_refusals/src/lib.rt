@@ -46,10 +46,10 @@ fn word_body(edition: Edition, word: &[u8]) -> Body
     requires { ⌜ length (now word) ≡ 26 ⌝ }
     ensures { λ r. ⌜ r ≡ bodyIn edition (now (word .entry)) ⌝ }
 {
-    let class = frame_kinds::class_of(edition, bit_fields::get(word, 21, 3));
+    let announced = frame_kinds::class_of(edition, bit_fields::get(word, 21, 3));
     let page = bit_fields::get(word, 55, 1);
     let kind = bit_fields::get(word, 67, 1);
-    frame_kinds::body_of(class, page, kind)
+    frame_kinds::body_of(announced, page, kind)
 }
 
 // The details of a repaired frame. Here and below its 26 bytes are required: the caller has them from the repair.
