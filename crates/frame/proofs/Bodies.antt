@@ -19,7 +19,7 @@ use Rattle.frame.specs.Identification.{classOf, updateOf, isUndefined}
 use Rattle.frame.specs.Entry.{Entry, held, ones, segmentsOf, indicesOf}
 use Rattle.frame.specs.Body.{bodyOf, row, layout, indices, ownUpdate}
 use Rattle.frame.specs.Span.{spanOf, between}
-use Rattle.frame.specs.Fields.{fieldCount, fields, recordFrom, gather, scatter, beforeDetails, inFields, fieldWidths, bodyValues, recordBody, tooWide, overLimit, recordOf}
+use Rattle.frame.specs.Fields.{fieldCount, fields, noOrigin, recordFrom, withOrigin, gather, scatter, beforeDetails, inFields, fieldWidths, bodyValues, recordBody, tooWide, overLimit, recordOf}
 use Rattle.frame.specs.Write.{recordRefusal, Legal}
 use Rattle.frame.specs.declared.Edition.{Edition}
 use Rattle.frame.specs.declared.Class.{Class}
@@ -220,7 +220,7 @@ elements-all [] = refl
 elements-all (v ∷ vs) = ap (v ∷_) (elements-cons 0 (length vs) v vs ∙ elements-all vs)
 
 -- the fields of the record that has these
-fields-from : (v : List ℕ) → length v ≡ fieldCount → fields (recordFrom v) ≡ v
+fields-from : (v : List ℕ) → length v ≡ fieldCount → fields (recordFrom noOrigin v) ≡ v
 unfolding recordFrom elements
 fields-from v n = ap (λ (k : ℕ). elements 0 k v) (sym n) ∙ elements-all v
 
@@ -263,8 +263,8 @@ update-agrees NoInformation r k h = omega arith
 
 -- and the record that is found there: what is not free is 0
 pub body-record : (b : Body) (r : Record) {c : Class} → Chosen c (r .page) (r .kind) b → Fit (fieldWidths b) (fields r)
-    → recordOf b (r .reference) (r .pattern) (r .identification) (updateOf c (r .update)) (bodyValues b r) ≡ r
-unfolding fieldWidths bodyValues recordOf recordFrom
+    → recordOf b (r .reference) (r .pattern) (r .identification) (updateOf c (r .update)) (bodyValues b r) ≡ withOrigin noOrigin r
+unfolding fieldWidths bodyValues recordOf
 body-record b r {c} ch f =
     let u = updateOf c (r .update) in
     let a : Agree (beforeDetails b 1 1 3 2) (beforeDetails b (r .reference) (r .pattern) (r .identification) u) (fields r) =
@@ -272,7 +272,7 @@ body-record b r {c} ch f =
     (next (same (r .pattern) 1 refl)
     (next (same (r .identification) 3 refl)
     (next (update-agrees b r ch) (agree-none (fieldCount - 4) (drop 4 (fields r)) refl)))) in
-    ap recordFrom (agree-fit (agree-scatter (indices b) (freeWidths (layout b)) (length-free b) a) f)
+    ap (recordFrom noOrigin) (agree-fit (agree-scatter (indices b) (freeWidths (layout b)) (length-free b) a) f)
 
 -- the value of one segment
 unpack-at : (ws : List ℕ) (bs : List Bool) (i : ℕ) → getD (unpack ws bs) i 0 ≡ value (take (getD ws i 0) (drop (sum (take i ws)) bs))

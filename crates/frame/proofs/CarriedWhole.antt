@@ -16,7 +16,7 @@ use Rattle.bits.proofs.Refusal.{none-refusal, refusal-append, refusal-most}
 use Rattle.dsc.specs.Repair.{repairOf}
 use Rattle.frame.specs.Identification.{classOf, isUndefined}
 use Rattle.frame.specs.Body.{row, layout}
-use Rattle.frame.specs.Fields.{fields, gather, scatter, fieldWidths, bodyValues, recordBody, overLimit}
+use Rattle.frame.specs.Fields.{fields, noOrigin, SameFields, gather, scatter, fieldWidths, bodyValues, recordBody, overLimit}
 use Rattle.frame.specs.Read.{classIn, bodyIn, detailsIn, recordIn, frameTests, frameRefusal, readOf, cleanOf}
 use Rattle.frame.specs.Write.{Legal, frameOf}
 use Rattle.frame.specs.Promises.{safetyRecord, CarriedWhole}
@@ -26,12 +26,13 @@ use Rattle.frame.specs.declared.Class.{Class}
 use Rattle.frame.specs.declared.Class.the-variants.{SafetyInformation}
 use Rattle.frame.specs.declared.Body.{Body}
 use Rattle.frame.specs.declared.Body.the-variants.{AreaPage, PlacePage, CancelPage, SafetyDetails, NoInformation}
+use Rattle.frame.specs.declared.Tuner.{Tuner}
 use Rattle.frame.specs.declared.Record.{Record}
-use Rattle.frame.specs.declared.Damage.{Damage}
 use Rattle.frame.specs.declared.Reading.the-variants.{Accepted}
 use Rattle.frame.proofs.Identifications.{safety-class}
 use Rattle.frame.proofs.Indices.{fit-at}
 use Rattle.frame.proofs.Bodies.{Chosen, safety, chosen, legal-sound, sound-legal, body-record, record-fit, taken}
+use Rattle.frame.proofs.Origins.{from-fields}
 use Rattle.frame.proofs.Frames.{length-frame, parts-frame, own-parts}
 use Rattle.frame.proofs.Promises.{demand2}
 
@@ -45,10 +46,10 @@ in-details : (r : Record) → packSegments (layout SafetyDetails) (bodyValues Sa
 unfolding row layout gather bodyValues widths withFixed pack
 in-details r = ap (bitsOf 31 (r .time) ++_) (append-nil (bitsOf 57 (r .region)))
 
-details : (ed : Edition) (f : List ℕ) (r : Record) (d : Damage) → readOf ed f ≡ Accepted r d → classOf ed (r .identification) ≡ SafetyInformation
+details : (ed : Edition) (t : Tuner) (f : List ℕ) (r : Record) (d : ℕ) → readOf ed t f ≡ Accepted r d → classOf ed (r .identification) ≡ SafetyInformation
     → detailsIn (cleanOf f) ≡ bitsOf 31 (r .time) ++ bitsOf 57 (r .region)
-details ed f r d e s =
-    ap detailsIn (sym (demand2 ed .written-again f r d e))
+details ed t f r d e s =
+    ap detailsIn (sym (demand2 ed .written-again t f r d e))
     ∙ own-parts ed r (frameOf ed r) (length-frame ed r) (parts-frame ed r .word) .details
     ∙ ap (λ (b : Body). packSegments (layout b) (bodyValues b r)) (safety-body ed r s)
     ∙ in-details r
@@ -100,12 +101,12 @@ untested ed f e =
 
 module _ (ed : Edition) (r : Record) (l : Legal ed r) where
   nothing-else : classOf ed (r .identification) ≡ SafetyInformation
-      → r ≡ safetyRecord (r .reference) (r .pattern) (r .identification) (r .update) (r .time) (r .region)
+      → SameFields r (safetyRecord (r .reference) (r .pattern) (r .identification) (r .update) (r .time) (r .region))
   unfolding row layout gather bodyValues
   nothing-else e =
       let fits : Fit (fieldWidths SafetyDetails) (fields r) =
       subst (λ (b : Body). Fit (fieldWidths b) (fields r)) (safety-body ed r e) (legal-sound ed r l .fit) in
-      sym (body-record SafetyDetails r safety fits)
+      sym (ap fields (body-record SafetyDetails r safety fits) ∙ from-fields noOrigin r)
 
   not-elsewhere : classOf ed (r .identification) ≢ SafetyInformation → r .region ≡ 0
   unfolding row layout scatter fieldWidths freeWidths

@@ -22,8 +22,8 @@ use Rattle.frame.specs.Promises.{NotSafety, FrameAlike, RecordAlike, Edi
 use Rattle.frame.specs.declared.Edition.{Edition}
 use Rattle.frame.specs.declared.Edition.the-variants.{First}
 use Rattle.frame.specs.declared.Class.the-variants.{Undefined}
+use Rattle.frame.specs.declared.Tuner.{Tuner}
 use Rattle.frame.specs.declared.Record.{Record}
-use Rattle.frame.specs.declared.Damage.{Damage}
 use Rattle.frame.specs.declared.Reading.the-variants.{Accepted}
 use Rattle.frame.proofs.Identifications.{class-alike, beyond, safety-class, table-start-end, table-update}
 use Rattle.frame.proofs.Bodies.{chosen, legal-sound, own-update}
@@ -42,7 +42,7 @@ module _ (ed other : Edition) (f : List ℕ) (n : NotSafety (identificationIn (r
 
   frame-alike : FrameAlike ed other f
   unfolding readOf judgeOf cleanedOf placesIn
-  frame-alike = record { read = rw (refusal-alike, same-class); judged = rw refusal-alike; cleaned = rw refusal-alike }
+  frame-alike = record { read = λ t. rw (refusal-alike, same-class); judged = rw refusal-alike; cleaned = rw refusal-alike }
 
 module _ (ed other : Edition) (r : Record) (n : NotSafety (r .identification)) where
   record-refusal-alike : recordRefusal ed r ≡ recordRefusal other r
@@ -101,7 +101,7 @@ module _ (ed : Edition) (f : List ℕ) (e : classIn ed (repairOf f .word) ≡ Un
 -- a frame that two editions refuse with one number is answered alike
 refused-alike : (ed other : Edition) (f : List ℕ) (n : ℕ) → n ≢ 0 → frameRefusal ed f ≡ n → frameRefusal other f ≡ n → FrameAlike ed other f
 unfolding readOf judgeOf cleanedOf placesIn
-refused-alike ed other f n z a b = record { read = rw (a, b, ne-eqb n 0 z); judged = rw (a, b, ne-eqb n 0 z); cleaned = rw (a, b, ne-eqb n 0 z) }
+refused-alike ed other f n z a b = record { read = λ t. rw (a, b, ne-eqb n 0 z); judged = rw (a, b, ne-eqb n 0 z); cleaned = rw (a, b, ne-eqb n 0 z) }
 
 first-frame : (other : Edition) (f : List ℕ) → frameRefusal First f ≢ 6 → FrameAlike First other f
 unfolding earlier
@@ -135,11 +135,11 @@ first-record other r h =
 
 -- ---- start/end and update of an accepted frame
 
-module _ (ed : Edition) (f : List ℕ) (r : Record) (d : Damage) (e : readOf ed f ≡ Accepted r d) where
+module _ (ed : Edition) (t : Tuner) (f : List ℕ) (r : Record) (d : ℕ) (e : readOf ed t f ≡ Accepted r d) where
   read-start-end : fieldAt (cleanOf f) 17 2 ≡ cond (eqb (r .identification) 7) 3 0
   read-start-end =
       let c = classOf ed (r .identification) in
-      ap (λ (g : List ℕ). fieldAt g 17 2) (sym (demand2 ed .written-again f r d e))
+      ap (λ (g : List ℕ). fieldAt g 17 2) (sym (demand2 ed .written-again t f r d e))
       ∙ ap value (own-parts ed r (frameOf ed r) (length-frame ed r) (parts-frame ed r .word) .start)
       ∙ value-bitsOf-fit 2 (startEndOf c) (start-lt c)
       ∙ table-start-end ed (r .identification)
@@ -148,8 +148,8 @@ module _ (ed : Edition) (f : List ℕ) (r : Record) (d : Damage) (e : readOf ed 
   read-update =
       let c = classOf ed (r .identification) in
       let b = recordBody ed r in
-      let sound = legal-sound ed r (demand2 ed .read-legal f r d e) in
-      ap (λ (g : List ℕ). fieldAt g 19 2) (sym (demand2 ed .written-again f r d e))
+      let sound = legal-sound ed r (demand2 ed .read-legal t f r d e) in
+      ap (λ (g : List ℕ). fieldAt g 19 2) (sym (demand2 ed .written-again t f r d e))
       ∙ ap value (own-parts ed r (frameOf ed r) (length-frame ed r) (parts-frame ed r .word) .update)
       ∙ value-bitsOf-fit 2 (updateOf c (r .update)) (update-lt b r (chosen c (r .page) (r .kind)) (own-update b r (sound .fit)))
       ∙ table-update ed (r .identification) (r .update)

@@ -29,7 +29,7 @@ use Rattle.sync_pattern.proofs.Patterns.{length-pattern}
 use Rattle.sync_pattern.proofs.Promises.{pattern-test}
 use Rattle.frame.specs.Identification.{classOf, startEndOf, updateOf, flagsWrong, isUndefined}
 use Rattle.frame.specs.Body.{bodyOf, layout, ownUpdate}
-use Rattle.frame.specs.Fields.{fields, fieldWidths, bodyValues, recordBody, overLimit, recordOf}
+use Rattle.frame.specs.Fields.{fields, noOrigin, recordFrom, withOrigin, fieldWidths, bodyValues, recordBody, overLimit, recordOf}
 use Rattle.frame.specs.Read.{identificationIn, bodyIn, detailsIn, valuesIn, recordIn, syncBits, syncIn, afterRepair}
 use Rattle.frame.specs.Promises.{SameOutside, HitPart}
 use Rattle.frame.specs.Write.{Legal, announced, messageBits, frameOf}
@@ -178,7 +178,7 @@ module _ (ed : Edition) where
 
   -- the record itself, and no refusal but 9
   module _ (r : Record) (f : Fit (fieldWidths (recordBody ed r)) (fields r)) where
-    pub found-record : recordIn ed (r .reference) (r .pattern) (wordBytes (wordOf r)) ≡ r
+    pub found-record : recordIn ed (r .reference) (r .pattern) (wordBytes (wordOf r)) ≡ withOrigin noOrigin r
     found-record =
         let c = wordBytes (wordOf r) in
         let b = recordBody ed r in
@@ -191,6 +191,7 @@ module _ (ed : Edition) where
 
     pub found-refusal : isUndefined (classOf ed (r .identification)) ≡ false
         → firstRefusal (afterRepair ed (wordBytes (wordOf r))) ≡ firstRefusal ((9, overLimit (recordBody ed r) (r .latitude) (r .longitude)) ∷ [])
+    unfolding recordFrom
     found-refusal known =
         let c = wordBytes (wordOf r) in
         let b = recordBody ed r in

@@ -27,36 +27,70 @@ use Rattle.sync_pattern.specs.declared.Sync.{Sync}
 use Rattle.sync_pattern.proofs.Patterns.{differing-dist, fitting-none}
 use Rattle.sync_pattern.proofs.Promises.{pattern-test}
 use Rattle.frame.specs.Body.{row}
-use Rattle.frame.specs.Read.{identificationIn, bodyIn, valuesIn, recordIn, syncBits, syncIn, afterRepair, frameRefusal, placesIn, noDamage, judgeOf, readOf, readingNumber, readingPlaces, readingDiffering, readingFields, cleanOf}
+use Rattle.frame.specs.Fields.{fields, noOrigin, recordFrom, withOrigin, SameFields}
+use Rattle.frame.specs.Read.{identificationIn, bodyIn, valuesIn, recordIn, syncBits, syncIn, afterRepair, frameRefusal, placesIn, judgeOf, readOf, readingNumber, readingTuner, readingPlaces, readingDiffering, readingFields, cleanOf}
 use Rattle.frame.specs.Area.{warnedIn}
 use Rattle.frame.specs.Write.{Legal, messageBits, recordRefusal, frameOf, writeNumber, writeOf}
-use Rattle.frame.specs.Promises.{HitFrame, hitFrame, Mended, Told, Demand2, AreasOnAir, BitNumbers}
+use Rattle.frame.specs.Promises.{HitFrame, hitFrame, Mended, ComesBack, Told, Demand2, Origins, AreasOnAir, BitNumbers}
 use Rattle.frame.specs.declared.Edition.{Edition}
 use Rattle.frame.specs.declared.Record.{Record}
-use Rattle.frame.specs.declared.Damage.{Damage}
+use Rattle.frame.specs.declared.Tuner.{Tuner}
+use Rattle.frame.specs.declared.Tuner.the-variants.{None}
+use Rattle.frame.specs.declared.Origin.{Origin}
 use Rattle.frame.specs.declared.Reading.{Reading}
 use Rattle.frame.specs.declared.Reading.the-variants.{Accepted, Refused}
 use Rattle.frame.proofs.Parts.{part-bits, length-part, frame-bits, filler-whole, frame-split, frame-parts}
 use Rattle.frame.proofs.Bodies.{layout-sum, legal-sound, taken}
+use Rattle.frame.proofs.Origins.{from-fields, from-origin, from-again, from-legal, from-frame, same-legal, same-written, same-warned}
 use Rattle.frame.proofs.Frames.{wordOf, record-word, length-frame, parts-frame, found-record, found-accepted, Outside, outside, own-outside}
 use Rattle.frame.proofs.Areas.{warned-on-air}
 use Rattle.frame.proofs.Readings.{Judged, accepted-judged, judged-accepted, judged-places, judged-dist, judged-read, read-legal, read-word}
 
 -- ---- what is told
 
-told-as : (a b : Reading) → a ≡ b → Told a (readingNumber b) (readingPlaces b) (readingDiffering b) (readingFields b)
+told-as : (a b : Reading) → a ≡ b → Told a (readingNumber b) (readingTuner b) (readingPlaces b) (readingDiffering b) (readingFields b)
 told-as a b e =
-    record { by-number = ap readingNumber e; by-places = ap readingPlaces e; by-differing = ap readingDiffering e; by-fields = ap readingFields e }
+    record {
+      by-number = ap readingNumber e;
+      by-tuner = ap readingTuner e;
+      by-places = ap readingPlaces e;
+      by-differing = ap readingDiffering e;
+      by-fields = ap readingFields e;
+    }
+
+-- what comes back is told
+told-back : (r : Record) (t : Tuner) (m n : ℕ) (a : Reading) → ComesBack r t m n a → Told a 0 t m n (fields r)
+told-back r t m n a c =
+    let s = told-as a (Accepted (c .back) n) (c .accepted) in
+    record {
+      by-number = s .by-number;
+      by-tuner = s .by-tuner ∙ c .tuner;
+      by-places = s .by-places ∙ c .repaired;
+      by-differing = s .by-differing;
+      by-fields = s .by-fields ∙ sym (c .same);
+    }
+
+-- a reading of the record from another origin
+back-from : (r : Record) (t : Tuner) (m n : ℕ) (a : Reading) → a ≡ Accepted (withOrigin (record { tuner = t; repaired = m }) r) n → ComesBack r t m n a
+back-from r t m n a e =
+    let o : Origin = record { tuner = t; repaired = m } in
+    record {
+      back = withOrigin o r;
+      accepted = e;
+      same = sym (from-fields o r);
+      tuner = ap (λ (p : Origin). p .tuner) (from-origin o r);
+      repaired = ap (λ (p : Origin). p .repaired) (from-origin o r);
+    }
 
 -- ---- written and read
 
 module _ (ed : Edition) where
   -- a frame that has what stands outside the word of a legal record's frame, m bits of the pattern apart, and whose word is repaired to that record's
-  read-record : (r : Record) (f : List ℕ) (m n : ℕ) → Legal ed r → length f ≡ 26 → Outside r m f → repairOf f ≡ repairedTo (wordOf ed r) n
-      → readOf ed f ≡ Accepted r (record { repaired = n; differing = m })
-  read-record r f m n l h o e =
+  read-record : (t : Tuner) (r : Record) (f : List ℕ) (m n : ℕ) → Legal ed r → length f ≡ 26 → Outside r m f → repairOf f ≡ repairedTo (wordOf ed r) n
+      → ComesBack r t n m (readOf ed t f)
+  read-record t r f m n l h o e =
       let fit = legal-sound ed r l .fit in
-      let d : Damage = record { repaired = n; differing = m } in
+      let origin : Origin = record { tuner = t; repaired = n } in
       let j : Judged ed f =
       record {
         word = wordOf ed r;
@@ -70,15 +104,17 @@ module _ (ed : Edition) where
         repaired = e;
         tests = found-accepted ed r l;
       } in
-      judged-read ed f j
-      ∙ ap (λ (x : ℕ). Accepted (recordIn ed x (r .pattern) (wordBytes (wordOf ed r))) d) (o .reference)
-      ∙ ap (λ (y : Record). Accepted y d) (found-record ed r fit)
+      back-from r t n m (readOf ed t f)
+      (judged-read ed f j t
+      ∙ ap (λ (x : ℕ). Accepted (withOrigin origin (recordIn ed x (r .pattern) (wordBytes (wordOf ed r)))) m) (o .reference)
+      ∙ ap (λ (y : Record). Accepted (withOrigin origin y) m) (found-record ed r fit)
+      ∙ ap (λ (y : Record). Accepted y m) (from-again origin noOrigin r))
 
-  hit-comes-back : (r : Record) (s e : List Bool) (f : List ℕ) → Legal ed r → HitFrame ed r s e f
-      → readOf ed f ≡ Accepted r (record { repaired = weight e; differing = weight s })
-  hit-comes-back r s e f l h =
+  hit-comes-back : (t : Tuner) (r : Record) (s e : List Bool) (f : List ℕ) → Legal ed r → HitFrame ed r s e f
+      → ComesBack r t (weight e) (weight s) (readOf ed t f)
+  hit-comes-back t r s e f l h =
       let w = h .word in
-      read-record r f (weight s) (weight e) l (h .size) (outside ed r (legal-sound ed r l .fit) f s (h .outside) (h .sync))
+      read-record t r f (weight s) (weight e) l (h .size) (outside ed r (legal-sound ed r l .fit) f s (h .outside) (h .sync))
       (demand3 .gives-sent-word f (wordOf ed r) e (h .size) (record-word ed r) (w .places) (w .few) (w .hit ∙ ap (add e) (parts-frame ed r .word)))
 
   hit-some : (r : Record) (s e : List Bool) → length s ≡ 16 → weight s ≤ 3 → length e ≡ 187 → weight e ≤ 8 → HitFrame ed r s e (hitFrame ed r s e)
@@ -113,21 +149,21 @@ module _ (ed : Edition) where
       let d : dist (protected f) (wordOf ed r) ≡ 0 = ap (λ (w : List Bool). dist w (wordOf ed r)) (parts-frame ed r .word) ∙ dist-same (wordOf ed r) in
       repair-found f (length-frame ed r) (wordOf ed r) (record-word ed r) (omega arith) ∙ ap (repairedTo (wordOf ed r)) d
 
-  pub comes-back : (r : Record) → Legal ed r → readOf ed (frameOf ed r) ≡ Accepted r noDamage
-  comes-back r l = read-record r (frameOf ed r) 0 0 l (length-frame ed r) (own-outside ed r (legal-sound ed r l .fit)) (repair-own r)
+  pub comes-back : (t : Tuner) (r : Record) → Legal ed r → ComesBack r t 0 0 (readOf ed t (frameOf ed r))
+  comes-back t r l = read-record t r (frameOf ed r) 0 0 l (length-frame ed r) (own-outside ed r (legal-sound ed r l .fit)) (repair-own r)
 
-  written-apart : (r s : Record) → Legal ed r → Legal ed s → frameOf ed r ≡ frameOf ed s → r ≡ s
-  written-apart r s lr ls e = let same = sym (comes-back r lr) ∙ ap (readOf ed) e ∙ comes-back s ls in cc
+  written-apart : (r s : Record) → Legal ed r → Legal ed s → frameOf ed r ≡ frameOf ed s → SameFields r s
+  written-apart r s lr ls e =
+      let a = comes-back None r lr in
+      let b = comes-back None s ls in
+      a .same ∙ ap readingFields (sym (a .accepted) ∙ ap (readOf ed None) e ∙ b .accepted) ∙ sym (b .same)
 
   -- ---- read and written
 
   module _ (f : List ℕ) (j : Judged ed f) where
-    -- the record that is read, and what was damaged
+    -- what the frame says
     recorded : Record
     recorded = recordIn ed (fieldAt f 0 1) (j .pattern) (wordBytes (j .word))
-
-    damaged : Damage
-    damaged = record { repaired = j .places; differing = j .differing }
 
     recorded-sync : Fitting (syncBits f) (j .pattern) (j .differing)
     recorded-sync = pattern-test .fits-only (syncBits f) (j .pattern) (j .differing) (j .sync)
@@ -161,8 +197,8 @@ module _ (ed : Edition) where
         ∙ ap (λ (l : List Bool). bytes 26 (bitsOf 1 (fieldAt f 0 1) ++ (patternBits (fittingPattern (syncIn f)) ++ l)))
         (sym (append-assoc m p (zeros 4)) ∙ ap (_++ zeros 4) w)
 
-    recorded-mended : Mended f (frameOf ed recorded) (recorded .pattern) damaged
-    unfolding bitsOf odd damaged
+    recorded-mended : Mended f (frameOf ed recorded) (recorded .pattern) (j .places) (j .differing)
+    unfolding bitsOf odd
     recorded-mended =
         let r = recorded in
         let b = bits f in
@@ -180,60 +216,88 @@ module _ (ed : Edition) where
                 filler = sym (filler-whole (frameOf ed r) (length-frame ed r)) ∙ p .filler ∙ sym filler ∙ filler-whole f (j .size);
               };
           pattern = p .pattern;
-          differing = record { count = y .differing ∙ sync; few = y .few };
+          by-differing = record { count = y .differing ∙ sync; few = y .few };
           word = subst CodeWord (sym (p .word)) (record-word ed r);
-          repaired = record { count = judged-dist ed f j .0 ∙ ap (dist (protected f)) (sym (p .word ∙ recorded-word)); few = judged-dist ed f j .1 };
+          by-places = record { count = judged-dist ed f j .0 ∙ ap (dist (protected f)) (sym (p .word ∙ recorded-word)); few = judged-dist ed f j .1 };
         }
 
-  -- what is known of an accepted frame
-  record Known (f : List ℕ) (r : Record) (d : Damage) : Type 0 where
+  -- what is known of an accepted frame: r is what it says, from the origin that was told and found
+  record Known (t : Tuner) (f : List ℕ) (r : Record) (d : ℕ) : Type 0 where
     judged : Judged ed f
-    is : recorded f judged ≡ r
-    damage : damaged f judged ≡ d
+    is : withOrigin (record { tuner = t; repaired = judged .places }) (recorded f judged) ≡ r
+    differing : judged .differing ≡ d
 
-  pub refused-read : (f : List ℕ) → frameRefusal ed f ≢ 0 → readOf ed f ≡ Refused (frameRefusal ed f)
+  pub refused-read : (t : Tuner) (f : List ℕ) → frameRefusal ed f ≢ 0 → readOf ed t f ≡ Refused (frameRefusal ed f)
   unfolding readOf
-  refused-read f n = rw (ne-eqb (frameRefusal ed f) 0 n)
+  refused-read t f n = rw (ne-eqb (frameRefusal ed f) 0 n)
 
-  known : (f : List ℕ) (r : Record) (d : Damage) → readOf ed f ≡ Accepted r d → Known f r d
-  unfolding recorded damaged
-  known f r d e = go (eqb (frameRefusal ed f) 0) refl
+  known : (t : Tuner) (f : List ℕ) (r : Record) (d : ℕ) → readOf ed t f ≡ Accepted r d → Known t f r d
+  unfolding recorded
+  known t f r d e = go (eqb (frameRefusal ed f) 0) refl
     where
-      go : (t : Bool) → eqb (frameRefusal ed f) 0 ≡ t → Known f r d
+      go : (b : Bool) → eqb (frameRefusal ed f) 0 ≡ b → Known t f r d
       go true q =
           let j = accepted-judged ed f (eqb-true (frameRefusal ed f) 0 q) in
-          let same = sym (judged-read ed f j) ∙ e in
-          record { judged = j; is = cc; damage = cc }
+          let same = sym (judged-read ed f j t) ∙ e in
+          record { judged = j; is = cc; differing = cc }
       go false q =
-          let same = sym (refused-read f (eqb-false (frameRefusal ed f) 0 q)) ∙ e in
+          let same = sym (refused-read t f (eqb-false (frameRefusal ed f) 0 q)) ∙ e in
           let z : _≡_ {A = ℕ} 0 1 = cc in absurd (omega arith)
 
-  module _ (f : List ℕ) (r : Record) (d : Damage) (e : readOf ed f ≡ Accepted r d) where
+  module _ (t : Tuner) (f : List ℕ) (r : Record) (d : ℕ) (e : readOf ed t f ≡ Accepted r d) where
+    -- where it came from, and what it says but for that
+    read-origin : (r .origin .tuner ≡ t) × (r .origin .repaired ≡ known t f r d e .judged .places)
+    read-origin =
+        let k = known t f r d e in
+        let o : Origin = record { tuner = t; repaired = k .judged .places } in
+        let own : r .origin ≡ o = ap (λ (y : Record). y .origin) (sym (k .is)) ∙ from-origin o (recorded f (k .judged)) in
+        (ap (λ (p : Origin). p .tuner) own, ap (λ (p : Origin). p .repaired) own)
+
     read-is-legal : Legal ed r
-    read-is-legal = let k = known f r d e in subst (Legal ed) (k .is) (recorded-legal f (k .judged))
+    read-is-legal = let k = known t f r d e in subst (Legal ed) (k .is) (from-legal ed _ (recorded f (k .judged)) (recorded-legal f (k .judged)))
 
     written-again : frameOf ed r ≡ cleanOf f
-    written-again = let k = known f r d e in ap (frameOf ed) (sym (k .is)) ∙ recorded-frame f (k .judged)
+    written-again =
+        let k = known t f r d e in ap (frameOf ed) (sym (k .is)) ∙ from-frame ed _ (recorded f (k .judged)) ∙ recorded-frame f (k .judged)
 
-    mended : Mended f (cleanOf f) (r .pattern) d
+    mended : Mended f (cleanOf f) (r .pattern) (r .origin .repaired) d
+    unfolding recordFrom
     mended =
-        let k = known f r d e in
+        let k = known t f r d e in
         let j = k .judged in
-        subst (λ (y : Record). Mended f (cleanOf f) (y .pattern) d) (k .is)
-        (subst (λ (n : Damage). Mended f (cleanOf f) (recorded f j .pattern) n) (k .damage)
-        (subst (λ (g : List ℕ). Mended f g (recorded f j .pattern) (damaged f j)) (recorded-frame f j) (recorded-mended f j)))
+        let pattern : recorded f j .pattern ≡ r .pattern = ap (λ (y : Record). y .pattern) (k .is) in
+        subst (λ (n : ℕ). Mended f (cleanOf f) n (r .origin .repaired) d) pattern
+        (subst (λ (n : ℕ). Mended f (cleanOf f) (recorded f j .pattern) n d) (sym (read-origin .1))
+        (subst (λ (n : ℕ). Mended f (cleanOf f) (recorded f j .pattern) (j .places) n) (k .differing)
+        (subst (λ (g : List ℕ). Mended f g (recorded f j .pattern) (j .places) (j .differing)) (recorded-frame f j) (recorded-mended f j))))
 
-    mended-read : readOf ed (cleanOf f) ≡ Accepted r noDamage
-    mended-read = ap (readOf ed) (sym written-again) ∙ comes-back r read-is-legal
+    mended-read : (u : Tuner) → ComesBack r u 0 0 (readOf ed u (cleanOf f))
+    mended-read u = subst (λ (g : List ℕ). ComesBack r u 0 0 (readOf ed u g)) written-again (comes-back u r read-is-legal)
+
+    -- told another tuner
+    other-tuner : (u : Tuner) → ComesBack r u (r .origin .repaired) d (readOf ed u f)
+    unfolding recorded
+    other-tuner u =
+        let k = known t f r d e in
+        let j = k .judged in
+        let b = back-from (recorded f j) u (j .places) (j .differing) (readOf ed u f) (judged-read ed f j u) in
+        let same : SameFields r (recorded f j) = ap fields (sym (k .is)) ∙ from-fields _ (recorded f j) in
+        record {
+          back = b .back;
+          accepted = b .accepted ∙ ap (Accepted (b .back)) (k .differing);
+          same = same ∙ b .same;
+          tuner = b .tuner;
+          repaired = b .repaired ∙ sym (read-origin .1);
+        }
 
     by-bit : (k : ℕ) → r .identification ≤ 3 → r .page ≡ 0 → k < 56 → warnedIn r k ≡ not (getD (bits (cleanOf f)) (56 + k) false)
     by-bit k w p h = warned-on-air ed r w p k h ∙ ap (λ (g : List ℕ). not (getD (bits g) (56 + k) false)) written-again
 
     -- the record's identification is that of the repaired frame
     pub read-identification : r .identification ≡ identificationIn (repairOf f .word)
-    unfolding recorded
+    unfolding recorded recordFrom
     read-identification =
-        let k = known f r d e in
+        let k = known t f r d e in
         let j = k .judged in
         let c = wordBytes (j .word) in
         sym (ap (λ (y : Record). y .identification) (k .is))
@@ -241,35 +305,33 @@ module _ (ed : Edition) where
         ∙ ap (λ (a : Answer). identificationIn (a .word)) (sym (j .repaired))
 
     accepted : frameRefusal ed f ≡ 0
-    accepted = judged-accepted ed f (known f r d e .judged)
+    accepted = judged-accepted ed f (known t f r d e .judged)
 
-    verdict : judgeOf ed f ≡ record { number = 0; repaired = d .repaired }
-    unfolding judgeOf damaged
-    verdict =
-        let k = known f r d e in
-        let n : placesIn ed f ≡ d .repaired = judged-places ed f (k .judged) ∙ ap (λ (x : Damage). x .repaired) (k .damage) in rw (accepted, n)
+    verdict : judgeOf ed f ≡ record { number = 0; repaired = r .origin .repaired }
+    unfolding judgeOf
+    verdict = let n : placesIn ed f ≡ r .origin .repaired = judged-places ed f (known t f r d e .judged) ∙ sym (read-origin .1) in rw (accepted, n)
 
   bytes-frame : (r : Record) → Bytes (frameOf ed r)
   unfolding frameOf
   bytes-frame r = bytes-Bytes 26 _
 
-  undamaged : (f : List ℕ) (r : Record) → Bytes f → readOf ed f ≡ Accepted r noDamage → frameOf ed r ≡ f
-  undamaged f r h e =
-      let m = mended f r noDamage e in
+  undamaged : (t : Tuner) (f : List ℕ) (r : Record) → Bytes f → readOf ed t f ≡ Accepted r 0 → r .origin .repaired ≡ 0 → frameOf ed r ≡ f
+  undamaged t f r h e none =
+      let m = mended t f r 0 e in
       let g = cleanOf f in
-      let lf = known f r noDamage e .judged .size in
+      let lf = known t f r 0 e .judged .size in
       let lb : length (bits f) ≡ 208 = frame-bits f lf in
       let lc : length (bits g) ≡ 208 = frame-bits g (m .size) in
       let s : syncBits g ≡ syncBits f =
-      sym (dist-none (syncBits f) (syncBits g) (length-part 1 16 (bits f) (omega arith) ∙ sym (length-part 1 16 (bits g) (omega arith))) (sym (m .differing .count))) in
+      sym (dist-none (syncBits f) (syncBits g) (length-part 1 16 (bits f) (omega arith) ∙ sym (length-part 1 16 (bits g) (omega arith))) (sym (m .by-differing .count))) in
       let w : protected g ≡ protected f =
-      sym (dist-none (protected f) (protected g) (length-protected f lf ∙ sym (length-protected g (m .size))) (sym (m .repaired .count))) in
+      sym (dist-none (protected f) (protected g) (length-protected f lf ∙ sym (length-protected g (m .size))) (sym (m .by-places .count) ∙ none)) in
       let b : bits g ≡ bits f =
       frame-split g (m .size)
       ∙ ap₂ (λ (x y : List Bool). x ++ (y ++ (protected g ++ take 4 (drop 204 (bits g))))) (m .outside .reference) s
       ∙ ap₂ (λ (x y : List Bool). take 1 (bits f) ++ (syncBits f ++ (x ++ take 4 y))) w (m .outside .filler)
       ∙ sym (frame-split f lf) in
-      written-again f r noDamage e ∙ bits-inj g f (subst Bytes (written-again f r noDamage e) (bytes-frame r)) h (m .size ∙ sym lf) b
+      written-again t f r 0 e ∙ bits-inj g f (subst Bytes (written-again t f r 0 e) (bytes-frame r)) h (m .size ∙ sym lf) b
 
   -- ---- refusal 3
 
@@ -291,31 +353,36 @@ module _ (ed : Edition) where
 
   -- ---- judged and read
 
-  judged : (f : List ℕ) → (judgeOf ed f .number ≡ readingNumber (readOf ed f)) × (judgeOf ed f .repaired ≡ readingPlaces (readOf ed f))
-  unfolding judgeOf readOf placesIn
-  judged f = go (eqb (frameRefusal ed f) 0) refl
+  judged : (t : Tuner) (f : List ℕ) → (judgeOf ed f .number ≡ readingNumber (readOf ed t f)) × (judgeOf ed f .repaired ≡ readingPlaces (readOf ed t f))
+  unfolding judgeOf readOf placesIn recordFrom
+  judged t f = go (eqb (frameRefusal ed f) 0) refl
     where
-      go : (t : Bool) → eqb (frameRefusal ed f) 0 ≡ t → (judgeOf ed f .number ≡ readingNumber (readOf ed f)) × (judgeOf ed f .repaired ≡ readingPlaces (readOf ed f))
+      go : (b : Bool) → eqb (frameRefusal ed f) 0 ≡ b → (judgeOf ed f .number ≡ readingNumber (readOf ed t f)) × (judgeOf ed f .repaired ≡ readingPlaces (readOf ed t f))
       go true q = rw (eqb-true (frameRefusal ed f) 0 q) (refl, refl)
       go false q = rw q (refl, refl)
 
-  judged-refused : (f : List ℕ) (n : ℕ) → readOf ed f ≡ Refused n → (n ≢ 0) × (judgeOf ed f ≡ record { number = n; repaired = 0 })
+  judged-refused : (t : Tuner) (f : List ℕ) (n : ℕ) → readOf ed t f ≡ Refused n → (n ≢ 0) × (judgeOf ed f ≡ record { number = n; repaired = 0 })
   unfolding judgeOf placesIn
-  judged-refused f n e = go (eqb (frameRefusal ed f) 0) refl
+  judged-refused t f n e = go (eqb (frameRefusal ed f) 0) refl
     where
-      go : (t : Bool) → eqb (frameRefusal ed f) 0 ≡ t → (n ≢ 0) × (judgeOf ed f ≡ record { number = n; repaired = 0 })
+      go : (b : Bool) → eqb (frameRefusal ed f) 0 ≡ b → (n ≢ 0) × (judgeOf ed f ≡ record { number = n; repaired = 0 })
       go true q =
-          let same = sym (judged-read ed f (accepted-judged ed f (eqb-true (frameRefusal ed f) 0 q))) ∙ e in
+          let same = sym (judged-read ed f (accepted-judged ed f (eqb-true (frameRefusal ed f) 0 q)) t) ∙ e in
           let z : _≡_ {A = ℕ} 0 1 = cc in absurd (omega arith)
       go false q =
           let ne = eqb-false (frameRefusal ed f) 0 q in
-          let same = sym (refused-read f ne) ∙ e in
+          let same = sym (refused-read t f ne) ∙ e in
           let number : frameRefusal ed f ≡ n = cc in
           (λ z. ne (number ∙ z), rw (q, number))
 
-  number-told : (f : List ℕ) → readingNumber (readOf ed f) ≡ frameRefusal ed f
+  number-told : (t : Tuner) (f : List ℕ) → readingNumber (readOf ed t f) ≡ frameRefusal ed f
   unfolding judgeOf
-  number-told f = sym (judged f .0)
+  number-told t f = sym (judged t f .0)
+
+  other-refused : (t u : Tuner) (f : List ℕ) (n : ℕ) → readOf ed t f ≡ Refused n → readOf ed u f ≡ Refused n
+  other-refused t u f n e =
+      let number : frameRefusal ed f ≡ n = sym (number-told t f) ∙ ap readingNumber e in
+      refused-read u f (λ z. judged-refused t f n e .0 (sym number ∙ z)) ∙ ap Refused number
 
   -- ---- what is written
 
@@ -338,17 +405,17 @@ module _ (ed : Edition) where
       record {
         comes-back = comes-back;
         hit-comes-back = hit-comes-back;
-        told = λ r l. told-as _ _ (comes-back r l);
-        hit-told = λ r s e f l h. told-as _ _ (hit-comes-back r s e f l h);
+        told = λ t r l. told-back _ _ _ _ _ (comes-back t r l);
+        hit-told = λ t r s e f l h. told-back _ _ _ _ _ (hit-comes-back t r s e f l h);
         hit-some = hit-some;
         number-told = number-told;
-        refused-told = λ f n. told-as _ _ (refused-read f n);
+        refused-told = λ t f n. told-as _ _ (refused-read t f n);
         no-pattern = no-pattern;
         no-pattern-only = no-pattern-only;
         written-again = written-again;
         mended = mended;
         undamaged = undamaged;
-        mended-read = mended-read;
+        mended-read = λ t u f r d e. mended-read t f r d e u;
         read-legal = read-is-legal;
         written-apart = written-apart;
         judged = judged;
@@ -360,7 +427,19 @@ module _ (ed : Edition) where
       }
 
   pub areas-on-air : AreasOnAir ed
-  areas-on-air = record { by-bit = λ f r d k e. by-bit f r d e k; tokyo = λ f r d e w p. by-bit f r d e 15 w p (omega arith) }
+  areas-on-air = record { by-bit = λ t f r d k e. by-bit t f r d e k; tokyo = λ t f r d e w p. by-bit t f r d e 15 w p (omega arith) }
+
+  pub origins : Origins ed
+  origins =
+      record {
+        tuner-told = λ t f r d e. read-origin t f r d e .0;
+        other-tuner = λ t u f r d e. other-tuner t f r d e u;
+        other-refused = other-refused;
+        same-some = λ o r. (sym (from-fields o r), from-origin o r);
+        same-legal = same-legal ed;
+        same-written = same-written ed;
+        same-warned = same-warned;
+      }
 
 -- ---- the bit numbers
 

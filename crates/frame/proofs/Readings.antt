@@ -29,14 +29,16 @@ use Rattle.sync_pattern.specs.declared.Sync.the-variants.{Fits}
 use Rattle.sync_pattern.proofs.Patterns.{fitting}
 use Rattle.frame.specs.Identification.{classOf, startEndOf, updateOf, isUndefined}
 use Rattle.frame.specs.Body.{bodyOf, layout, ownUpdate}
-use Rattle.frame.specs.Fields.{fields, fieldWidths, bodyValues, recordBody, overLimit}
-use Rattle.frame.specs.Read.{identificationIn, classIn, bodyIn, detailsIn, valuesIn, recordIn, syncIn, beforeRepair, afterRepair, frameRefusal, placesIn, damageIn, readOf}
+use Rattle.frame.specs.Fields.{fields, withOrigin, fieldWidths, bodyValues, recordBody, overLimit}
+use Rattle.frame.specs.Read.{identificationIn, classIn, bodyIn, detailsIn, valuesIn, recordIn, syncIn, beforeRepair, afterRepair, frameRefusal, placesIn, originIn, contentsIn, readOf}
 use Rattle.frame.specs.Write.{Legal, announced, messageBits}
 use Rattle.frame.specs.declared.Edition.{Edition}
 use Rattle.frame.specs.declared.Class.{Class}
 use Rattle.frame.specs.declared.Body.{Body}
 use Rattle.frame.specs.declared.Body.the-variants.{AreaPage, PlacePage, CancelPage, SafetyDetails, NoInformation}
-use Rattle.frame.specs.declared.Damage.{Damage}
+use Rattle.frame.specs.declared.Tuner.{Tuner}
+use Rattle.frame.specs.declared.Origin.{Origin}
+use Rattle.frame.specs.declared.Record.{Record}
 use Rattle.frame.specs.declared.Reading.the-variants.{Accepted}
 use Rattle.frame.proofs.Parts.{regroup, inner-part, part-split, part-bits, length-part, frame-bits, word-split}
 use Rattle.frame.proofs.Bodies.{layout-sum, Chosen, area, place, cancel, safety, silent, undefined, chosen, sound-legal, record-values, record-fit, record-body, taken}
@@ -119,15 +121,18 @@ module _ (ed : Edition) where
     unfolding placesIn
     judged-places = rw (judged-accepted, j .repaired)
 
-    judged-damage : _≡_ {A = Damage} (damageIn ed f) (record { repaired = j .places; differing = j .differing })
-    judged-damage = ap₂ (λ (m n : ℕ). record { repaired = m; differing = n }) judged-places (ap fittingDiffering (j .sync))
+    judged-origin : (t : Tuner) → originIn ed t f ≡ record { tuner = t; repaired = j .places }
+    judged-origin t = ap (λ (n : ℕ). record { tuner = t; repaired = n }) judged-places
 
-    pub judged-read : readOf ed f
-        ≡ Accepted (recordIn ed (fieldAt f 0 1) (j .pattern) (wordBytes (j .word))) (record { repaired = j .places; differing = j .differing })
+    judged-contents : contentsIn ed f ≡ recordIn ed (fieldAt f 0 1) (j .pattern) (wordBytes (j .word))
+    judged-contents = ap₂ (λ (p : ℕ) (a : Answer). recordIn ed (fieldAt f 0 1) p (a .word)) (ap fittingPattern (j .sync)) (j .repaired)
+
+    pub judged-read : (t : Tuner) → readOf ed t f
+        ≡ Accepted (withOrigin (record { tuner = t; repaired = j .places }) (recordIn ed (fieldAt f 0 1) (j .pattern) (wordBytes (j .word)))) (j .differing)
     unfolding readOf
-    judged-read =
+    judged-read t =
         rw judged-accepted
-        (ap₂ Accepted (ap₂ (λ (p : ℕ) (a : Answer). recordIn ed (fieldAt f 0 1) p (a .word)) (ap fittingPattern (j .sync)) (j .repaired)) judged-damage)
+        (ap₂ Accepted (ap₂ (λ (o : Origin) (r : Record). withOrigin o r) (judged-origin t) judged-contents) (ap fittingDiffering (j .sync)))
 
     -- the word differs from the received bits in as many places, at most eight
     pub judged-dist : (j .places ≡ dist (protected f) (j .word)) × (j .places ≤ 8)

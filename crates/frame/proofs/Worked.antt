@@ -29,6 +29,7 @@ use Rattle.frame.specs.declared.Edition.the-variants.{First}
 use Rattle.frame.specs.declared.Class.{Class}
 use Rattle.frame.specs.declared.Body.{Body}
 use Rattle.frame.specs.declared.Body.the-variants.{PlacePage}
+use Rattle.frame.specs.declared.Tuner.{Tuner}
 use Rattle.frame.specs.declared.Record.{Record}
 use Rattle.frame.specs.declared.Reading.the-variants.{Refused}
 use Rattle.frame.proofs.Bodies.{Chosen, place, chosen, sound-legal}
@@ -59,26 +60,26 @@ not-written : (r : Record) → AtLatitude 901 r → recordRefusal First r ≡ 9
 unfolding recordRefusal
 not-written r a = refusal-later 6 _ (known 901 r a) ∙ refusal-later 10 _ (a .fit) ∙ refusal-here 9 [] (limits 901 r a)
 
-not-read : (r : Record) → AtLatitude 901 r → readOf First (frameOf First r) ≡ Refused 9
-not-read r a =
+not-read : (t : Tuner) (r : Record) → AtLatitude 901 r → readOf First t (frameOf First r) ≡ Refused 9
+not-read t r a =
     let f = frameOf First r in
     let g = fit 901 r a in
     let o = own-outside First r g in
     let e : frameRefusal First f ≡ 9 =
     repaired-refusal First f (wordOf First r) 0 (length-frame First r) (o .filler) (ap syncNumber (o .sync)) (repair-own First r)
     ∙ found-refusal First r g (known 901 r a) ∙ refusal-here 9 [] (limits 901 r a) in
-    refused-read First f (λ z. omega arith) ∙ ap Refused e
+    refused-read First t f (λ z. omega arith) ∙ ap Refused e
 
 some : (n : ℕ) → n < 1024 → AtLatitude n (atLatitude n)
 unfolding atLatitude classOf row layout scatter fieldWidths freeWidths
 some n h = record { body = refl; fit = rw (lt-ltb n 1024 h); longitude = omega arith; latitude = refl }
 
-zero-bytes : readOf First (replicate 26 0) ≡ Refused 3
+zero-bytes : (t : Tuner) → readOf First t (replicate 26 0) ≡ Refused 3
 unfolding frameRefusal firstRefusal syncOf differingFrom add bits bitsOf odd value digit
-zero-bytes =
+zero-bytes t =
     let f : List ℕ = replicate 26 0 in
     let e : frameRefusal First f ≡ 3 = refusal-append-given (beforeRepair f) ((4, not (eqb (numberOf (repairOf f)) 0)) ∷ afterRepair First (repairOf f .word)) 3 (omega arith) refl in
-    refused-read First f (λ z. omega arith) ∙ ap Refused e
+    refused-read First t f (λ z. omega arith) ∙ ap Refused e
 
 all-test : T (below 56 (λ k. warnedIn (areaRecord 0) k))
 unfolding below warnedIn areaRecord odd
@@ -106,7 +107,7 @@ pub worked : Worked
 worked =
     record {
       example8-written = legal;
-      example8-read = λ r a. comes-back First r (legal r a);
+      example8-read = λ t r a. comes-back First t r (legal r a);
       example8-not-written = not-written;
       example8-not-read = not-read;
       example8-some = some;

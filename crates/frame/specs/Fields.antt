@@ -1,4 +1,5 @@
--- A record's fields: as a list, their widths, and the record of a body's values. Assumes nothing.
+-- A record's fields: as a list, their widths, and the record of a body's values; and its origin, which no rule looks at (document 02, j). Assumes nothing.
+use mathlib.Core.Path.{_≡_}
 use mathlib.Core.List.{List, [], _∷_}
 use mathlib.Core.Bool.{Bool, false, not, _||_}
 use Prim.Native.Nat.{ℕ, _-_}
@@ -11,20 +12,27 @@ use Rattle.frame.specs.declared.Edition.{Edition}
 use Rattle.frame.specs.declared.Body.{Body}
 use Rattle.frame.specs.declared.Body.the-variants.{AreaPage, PlacePage, CancelPage, SafetyDetails, NoInformation}
 use Rattle.frame.specs.Body.{bodyOf, layout, indices, ownUpdate}
+use Rattle.frame.specs.declared.Tuner.the-variants as tuner
+use Rattle.frame.specs.declared.Origin.{Origin}
 use Rattle.frame.specs.declared.Record.{Record}
 
--- how many fields a record has
+-- how many fields of a record stand in its frame
 abbrev pub fieldCount : ℕ
 fieldCount = 19
 
+-- all fields but its origin, which is the tuner and the number of repaired places
 abbrev pub fields : Record → List ℕ
 fields r =
     r .reference ∷ r .pattern ∷ r .identification ∷ r .update ∷ r .time ∷ r .page ∷ r .areas ∷ r .total ∷ r .item ∷ r .number ∷ r .kind ∷ r .south ∷ r .latitude
     ∷ r .west ∷ r .longitude ∷ r .depth ∷ r .occurred ∷ r .broadcaster ∷ r .region ∷ []
 
--- the record that has these fields
-unfoldable pub recordFrom : List ℕ → Record
-recordFrom v =
+-- of a record that was read from no frame: no tuner, nothing repaired
+abbrev pub noOrigin : Origin
+noOrigin = record { tuner = tuner.None; repaired = 0 }
+
+-- the record that has these fields, from that origin
+unfoldable pub recordFrom : Origin → List ℕ → Record
+recordFrom o v =
     record {
       reference = getD v 0 0;
       pattern = getD v 1 0;
@@ -45,7 +53,16 @@ recordFrom v =
       occurred = getD v 16 0;
       broadcaster = getD v 17 0;
       region = getD v 18 0;
+      origin = o;
     }
+
+-- the record, from another origin
+abbrev pub withOrigin : Origin → Record → Record
+withOrigin o r = recordFrom o (fields r)
+
+-- two records are the same in all fields but the tuner and the number of repaired places
+abbrev pub SameFields : Record → Record → Type 0
+SameFields r s = fields r ≡ fields s
 
 -- the elements of f at the indices ks
 unfoldable pub gather : (ks f : List ℕ) → List ℕ
@@ -74,9 +91,9 @@ fieldWidths b = inFields b 1 1 3 2 (freeWidths (layout b))
 unfoldable pub bodyValues : Body → Record → List ℕ
 bodyValues b r = gather (indices b) (fields r)
 
--- the record of the values us that stand in a body's fields, with the reference, the pattern, the identification and the update
+-- the record of the values us that stand in a body's fields, with the reference, the pattern, the identification and the update; it has no origin yet
 unfoldable pub recordOf : Body → (reference pattern identification update : ℕ) → List ℕ → Record
-recordOf b x p i u us = recordFrom (inFields b x p i u us)
+recordOf b x p i u us = recordFrom noOrigin (inFields b x p i u us)
 
 -- the body that a record has, by the edition named
 abbrev pub recordBody : Edition → Record → Body

@@ -1,4 +1,4 @@
--- Judging and reading a frame (document 01, "When the box says no"; document 02, a) and e), by the edition named. Assumes nothing.
+-- Judging and reading a frame (document 01, "When the box says no"; document 02, a), e) and j), by the edition named. Assumes nothing.
 use mathlib.Core.Bool.{Bool, cond, not}
 use mathlib.Core.List.{List, [], _∷_, _++_}
 use Prim.Native.Nat.{ℕ}
@@ -15,12 +15,14 @@ use Rattle.sync_pattern.specs.Pattern.{patternBits, syncOf, syncNumber, fitting
 use Rattle.sync_pattern.specs.declared.Sync.{Sync}
 use Rattle.frame.specs.Identification.{classOf, flagsWrong, isUndefined}
 use Rattle.frame.specs.Body.{bodyOf, layout}
-use Rattle.frame.specs.Fields.{fields, overLimit, recordOf}
+use Rattle.frame.specs.Fields.{fields, withOrigin, overLimit, recordOf}
 use Rattle.frame.specs.declared.Edition.{Edition}
 use Rattle.frame.specs.declared.Class.{Class}
 use Rattle.frame.specs.declared.Body.{Body}
 use Rattle.frame.specs.declared.Record.{Record}
-use Rattle.frame.specs.declared.Damage.{Damage}
+use Rattle.frame.specs.declared.Tuner.{Tuner}
+use Rattle.frame.specs.declared.Tuner.the-variants.{None}
+use Rattle.frame.specs.declared.Origin.{Origin}
 use Rattle.frame.specs.declared.Verdict.{Verdict}
 use Rattle.frame.specs.declared.Cleaned.{Cleaned}
 use Rattle.frame.specs.declared.Reading.{Reading}
@@ -90,36 +92,41 @@ frameRefusal ed f = firstRefusal (frameTests ed f)
 unfoldable pub placesIn : Edition → List ℕ → ℕ
 placesIn ed f = cond (eqb (frameRefusal ed f) 0) (placesOf (repairOf f)) 0
 
--- nothing repaired, and no bit that differed
-abbrev pub noDamage : Damage
-noDamage = record { repaired = 0; differing = 0 }
+-- where the record of an accepted frame came from: the tuner t that the reader is told, and the number of repaired places
+abbrev pub originIn : Edition → Tuner → List ℕ → Origin
+originIn ed t f = record { tuner = t; repaired = placesIn ed f }
 
--- what was damaged in an accepted frame: the repaired places, and beside them the bits that differed from the pattern; it is not asked of a refused one
-abbrev pub damageIn : Edition → List ℕ → Damage
-damageIn ed f = record { repaired = placesIn ed f; differing = fittingDiffering (syncIn f) }
+-- what an accepted frame says: reference and pattern as they were received, all else by the repaired word
+abbrev pub contentsIn : Edition → List ℕ → Record
+contentsIn ed f = recordIn ed (fieldAt f 0 1) (fittingPattern (syncIn f)) (repairOf f .word)
 
 -- what `judge` answers
 unfoldable pub judgeOf : Edition → List ℕ → Verdict
 judgeOf ed f = record { number = frameRefusal ed f; repaired = placesIn ed f }
 
--- what `read` answers
-unfoldable pub readOf : Edition → List ℕ → Reading
-readOf ed f =
+-- what `read` answers, told the tuner t: what the frame says and where it came from, and beside that the bits that differed from the pattern
+unfoldable pub readOf : Edition → Tuner → List ℕ → Reading
+readOf ed t f =
     cond (eqb (frameRefusal ed f) 0)
-    (Accepted (recordIn ed (fieldAt f 0 1) (fittingPattern (syncIn f)) (repairOf f .word)) (damageIn ed f))
+    (Accepted (withOrigin (originIn ed t f) (contentsIn ed f)) (fittingDiffering (syncIn f)))
     (Refused (frameRefusal ed f))
 
--- the documents' number and values of a reading: 0 with the repaired places, the differing bits and the record, or the refusal's number and nothing else
+-- the documents' number and values of a reading: 0 with the record, of which its fields and its repaired places are told, and the differing bits; or the
+-- refusal's number and nothing else
 abbrev pub readingNumber : Reading → ℕ
 readingNumber (Accepted r d) = 0
 readingNumber (Refused n) = n
 
 abbrev pub readingPlaces : Reading → ℕ
-readingPlaces (Accepted r d) = d .repaired
+readingPlaces (Accepted r d) = r .origin .repaired
 readingPlaces (Refused n) = 0
 
+abbrev pub readingTuner : Reading → Tuner
+readingTuner (Accepted r d) = r .origin .tuner
+readingTuner (Refused n) = None
+
 abbrev pub readingDiffering : Reading → ℕ
-readingDiffering (Accepted r d) = d .differing
+readingDiffering (Accepted r d) = d
 readingDiffering (Refused n) = 0
 
 abbrev pub readingFields : Reading → List ℕ

@@ -12,9 +12,10 @@ use Rattle.bits.specs.Segment.{fixedOnes, segment, widths, holds, fixedHold, fr
 use Rattle.bits.proofs.Layouts.{length-unpack}
 use Rattle.frame.specs.Body.{layout, ownUpdate}
 use Rattle.frame.specs.Span.{spanOf, between}
-use Rattle.frame.specs.Fields.{fieldCount, recordFrom, fieldWidths, recordOf}
+use Rattle.frame.specs.Fields.{fieldCount, noOrigin, recordFrom, fieldWidths, recordOf}
 use Rattle.frame.specs.declared.Body.{Body}
 use Rattle.frame.specs.declared.Span.{Span}
+use Rattle.frame.specs.declared.Origin.{Origin}
 use Rattle.frame.specs.declared.Record.{Record}
 use Rattle.frame.proofs.Bodies.{layout-sum, length-fieldWidths, right}
 use Rattle.frame_details.specs.Details.{fieldsRead, onesHold, detailsOf}
@@ -74,16 +75,17 @@ ones-seen b d {s} es ev et ew eu =
     ∙ ap (λ (k : Span). holds (fixedOnes (8 * k .before)) (value (take (8 * k .before) d))
     && holds (fixedOnes (k .after)) (value (take (k .after) (drop (88 - k .after) d)))) es
 
-pub details-read : (b : Body) (x p i u : ℕ) (d : List Bool) {v : List ℕ} {t : Bool} {o : ℕ} {r : Record} → 88 ≤ length d → t ≡ onesHold b d → v ≡ fieldsRead b d
-    → o ≡ ownUpdate b u → r ≡ recordFrom (set (set (set (set v 0 x) 1 p) 2 i) 3 o)
+pub details-read : (b : Body) (x p i u : ℕ) (d : List Bool) {v : List ℕ} {t : Bool} {o : ℕ} {g : Origin} {r : Record} → 88 ≤ length d → t ≡ onesHold b d → v ≡ fieldsRead b d
+    → o ≡ ownUpdate b u → g ≡ noOrigin → r ≡ recordFrom g (set (set (set (set v 0 x) 1 p) 2 i) 3 o)
     → _≡_ {A = Details} (record { holds = t; contents = r }) (detailsOf b x p i u (take 88 d))
 unfolding detailsOf
-details-read b x p i u d {v} n et ev eo er =
+details-read b x p i u d {v} {o = o} n et ev eo eg er =
     ap₂ (λ (s : Bool) (y : Record). record { holds = s; contents = y })
     (et ∙ sym (fixed-bits b d n))
     (er
-    ∙ ap₂ (λ (l : List ℕ) (k : ℕ). recordFrom (set (set (set (set l 0 x) 1 p) 2 i) 3 k)) ev eo
-    ∙ ap recordFrom (set-four (fieldsRead b d) x p i (ownUpdate b u) (omega (arith, length-read b d)))
+    ∙ ap (λ (z : Origin). recordFrom z (set (set (set (set v 0 x) 1 p) 2 i) 3 o)) eg
+    ∙ ap₂ (λ (l : List ℕ) (k : ℕ). recordFrom noOrigin (set (set (set (set l 0 x) 1 p) 2 i) 3 k)) ev eo
+    ∙ ap (recordFrom noOrigin) (set-four (fieldsRead b d) x p i (ownUpdate b u) (omega (arith, length-read b d)))
     ∙ sym (record-read b x p i u d))
     ∙ details-front b x p i u d
 

@@ -14,7 +14,7 @@ use Rattle.bits.specs.Segment.{widths, freeWidths, fixedHold, free, withFixed, 
 use Rattle.bits.proofs.Bits.{value-take-lt, value-append}
 use Rattle.frame.specs.Body.{row, layout, ownUpdate}
 use Rattle.frame.specs.Span.{spanOf, between}
-use Rattle.frame.specs.Fields.{fields, recordFrom, gather, scatter, fieldWidths, bodyValues, recordOf}
+use Rattle.frame.specs.Fields.{fields, noOrigin, recordFrom, gather, scatter, fieldWidths, bodyValues, recordOf}
 use Rattle.frame.specs.declared.Body.{Body}
 use Rattle.frame.specs.declared.Body.the-variants.{AreaPage, PlacePage, CancelPage, SafetyDetails, NoInformation}
 use Rattle.frame.specs.declared.Record.{Record}
@@ -22,7 +22,7 @@ use Rattle.frame_details.specs.Details.{fieldsRead, onesHold}
 
 -- the record, field by field
 pub record-read : (b : Body) (x p i u : ℕ) (d : List Bool)
-    → recordOf b x p i u (unpackSegments (layout b) d) ≡ recordFrom (x ∷ p ∷ i ∷ ownUpdate b u ∷ drop 4 (fieldsRead b d))
+    → recordOf b x p i u (unpackSegments (layout b) d) ≡ recordFrom noOrigin (x ∷ p ∷ i ∷ ownUpdate b u ∷ drop 4 (fieldsRead b d))
 unfolding row layout scatter fieldWidths freeWidths widths free unpack value spanOf fieldsRead recordOf
 record-read AreaPage x p i u d = refl
 record-read PlacePage x p i u d = refl

@@ -66,7 +66,7 @@ pub fn read_details(
     v[3] = frame_bodies::own_update(body, update);
     Details {
         holds,
-        contents: frame_fields::record_of(&v),
+        contents: frame_fields::record_of(frame_fields::no_origin(), &v),
     }
 }
 

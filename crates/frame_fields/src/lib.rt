@@ -1,9 +1,11 @@
-// A record and the list of its fields.
+// A record, the list of its fields, and its origin.
 ghost use mathlib.Core.Path.{_≡_};
 ghost use lib.ListN.{length};
-ghost use Rattle.frame.specs.Fields.{fieldCount, fields, recordFrom};
+ghost use Rattle.frame.specs.Fields.{fieldCount, fields, noOrigin, recordFrom};
 use frame::FIELDS;
+use frame::Origin;
 use frame::Record;
+use frame::Tuner;
 
 // The fields, in the order of the record.
 pub fn fields_of(contents: Record) -> [u64; FIELDS]
@@ -32,10 +34,20 @@ pub fn fields_of(contents: Record) -> [u64; FIELDS]
     ]
 }
 
-// The record that has these fields. It requires that there are as many as a record has: its callers have tested that, or lend an array.
-pub fn record_of(v: &[u64]) -> Record
+// The origin of a record that was read from no frame.
+pub fn no_origin() -> Origin
+    ensures { λ r. ⌜ r ≡ noOrigin ⌝ }
+{
+    Origin {
+        tuner: Tuner::None,
+        repaired: 0,
+    }
+}
+
+// The record that has these fields, from that origin. It requires that there are as many as a record has: its callers have tested that, or lend an array.
+pub fn record_of(origin: Origin, v: &[u64]) -> Record
     requires { ⌜ length (now v) ≡ fieldCount ⌝ }
-    ensures { λ r. ⌜ r ≡ recordFrom (now (v .entry)) ⌝ }
+    ensures { λ r. ⌜ r ≡ recordFrom origin (now (v .entry)) ⌝ }
 {
     Record {
         reference: v[0],
@@ -57,5 +69,6 @@ pub fn record_of(v: &[u64]) -> Record
         occurred: v[16],
         broadcaster: v[17],
         region: v[18],
+        origin,
     }
 }

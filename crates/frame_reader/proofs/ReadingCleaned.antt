@@ -17,17 +17,19 @@ use Rattle.dsc.proofs.Answers.{length-protected, length-wordBytes, bits-wordByt
 use Rattle.dsc.proofs.Decoding.{Nearest, one, none, nearest}
 use Rattle.dsc.proofs.Word.{length-word}
 use Rattle.sync_pattern.specs.Pattern.{patternWord, fittingPattern}
-use Rattle.frame.specs.Read.{syncIn, frameRefusal, readOf, cleanOf}
+use Rattle.frame.specs.Fields.{recordFrom, withOrigin}
+use Rattle.frame.specs.Read.{syncIn, frameRefusal, contentsIn, readOf, cleanOf}
 use Rattle.frame_reader.specs.Examined.{examinedOf}
 use Rattle.frame.specs.Read.{cleanedOf}
 use Rattle.frame.specs.declared.Edition.{Edition}
+use Rattle.frame.specs.declared.Tuner.{Tuner}
+use Rattle.frame.specs.declared.Origin.{Origin}
 use Rattle.frame.specs.declared.Record.{Record}
-use Rattle.frame.specs.declared.Damage.{Damage}
 use Rattle.frame_reader.specs.declared.Examined.{Examined}
 use Rattle.frame.specs.declared.Cleaned.{Cleaned}
 use Rattle.frame.specs.declared.Reading.the-variants.{Accepted, Refused}
 use Rattle.frame.proofs.Bodies.{taken}
-use Rattle.frame_reader.proofs.ReadingExamined.{contentsIn, read-accepted, read-refused}
+use Rattle.frame_reader.proofs.ReadingExamined.{read-accepted, read-refused}
 
 -- ---- 17 bits put in front
 
@@ -66,10 +68,10 @@ module _ (ed : Edition) where
             rw (repair-found f (untouched .0) c k d, bits-wordBytes c l, protected-wordBytes c l)
         go (none n) = let z : _≡_ {A = ℕ} 4 0 = sym (ap numberOf (repair-none f (untouched .0) n)) ∙ untouched .1 in absurd (omega arith)
 
-    cleaned-bytes : (r : Record) → r ≡ contentsIn ed f
+    cleaned-bytes : (o : Origin) (r : Record) → r ≡ withOrigin o (contentsIn ed f)
         → putOf (putOf (repairOf f .word) 0 1 (r .reference)) 1 16 (patternWord (r .pattern)) ≡ cleanOf f
-    unfolding cleanOf
-    cleaned-bytes r er =
+    unfolding cleanOf recordFrom
+    cleaned-bytes o r er =
         let a : r .reference ≡ fieldAt f 0 1 = ap (λ (k : Record). k .reference) er ∙ taken _ _ _ _ _ _ .reference in
         let b : r .pattern ≡ fittingPattern (syncIn f) = ap (λ (k : Record). k .pattern) er ∙ taken _ _ _ _ _ _ .pattern in
         put-front (repairOf f .word) (r .reference) (patternWord (r .pattern)) word-length
@@ -77,22 +79,22 @@ module _ (ed : Edition) where
 
   -- ---- what `clean` answers
 
-  module _ (f : List ℕ) (x : Examined) (ex : x ≡ examinedOf ed f) where
-    read-is : x .reading ≡ readOf ed f
+  module _ (t : Tuner) (f : List ℕ) (x : Examined) (ex : x ≡ examinedOf ed t f) where
+    read-is : x .reading ≡ readOf ed t f
     unfolding examinedOf
     read-is = ap (λ (k : Examined). k .reading) ex
 
     pub cleaned-refused : (n : ℕ) → x .reading ≡ Refused n → _≡_ {A = Cleaned} (record { number = n; frame = replicate 26 0 }) (cleanedOf ed f)
     unfolding cleanedOf
-    cleaned-refused n e = let a = read-refused ed f n (sym read-is ∙ e) in rw (a .number, ne-eqb n 0 (a .some))
+    cleaned-refused n e = let a = read-refused ed t f n (sym read-is ∙ e) in rw (a .number, ne-eqb n 0 (a .some))
 
     -- s holds the word with the reference put, g the pattern too
-    pub cleaned-accepted : (r : Record) (d : Damage) (s g : List ℕ) (y : ℕ) → x .reading ≡ Accepted r d
+    pub cleaned-accepted : (r : Record) (d : ℕ) (s g : List ℕ) (y : ℕ) → x .reading ≡ Accepted r d
         → s ≡ putOf (x .word) 0 1 (r .reference) → y ≡ patternWord (r .pattern) → g ≡ putOf s 1 16 y
         → _≡_ {A = Cleaned} (record { number = 0; frame = g }) (cleanedOf ed f)
     unfolding cleanedOf examinedOf
     cleaned-accepted r d s g y e es ey eg =
-        let a = read-accepted ed f r d (sym read-is ∙ e) in
+        let a = read-accepted ed t f r d (sym read-is ∙ e) in
         let w : x .word ≡ repairOf f .word = ap (λ (k : Examined). k .word) ex ∙ rw (eq-eqb (frameRefusal ed f) 0 (a .none)) in
-        let k : g ≡ cleanOf f = eg ∙ rw (es, ey, w) (cleaned-bytes f (a .none) r (a .contents)) in
+        let k : g ≡ cleanOf f = eg ∙ rw (es, ey, w) (cleaned-bytes f (a .none) _ r (a .contents)) in
         rw (eq-eqb (frameRefusal ed f) 0 (a .none), a .none) (ap (λ (b : List ℕ). record { number = 0; frame = b }) k)

@@ -1,12 +1,13 @@
-// Reading a frame by the edition named: the tests in their order, and the record.
+// Reading a frame by the edition named: the tests in their order, and the record, with the tuner that the reader is told.
 ghost use mathlib.Core.Path.{_≡_};
 ghost use Rattle.frame.specs.Read.{readOf, judgeOf, cleanedOf};
 ghost use Rattle.frame_reader.specs.Examined.{examinedRefused, wordExamined, examinedOf};
 use dsc::Outcome;
 use frame::Cleaned;
-use frame::Damage;
 use frame::Edition;
+use frame::Origin;
 use frame::Reading;
+use frame::Tuner;
 use frame::Verdict;
 use frame_refusals::Preamble;
 
@@ -26,31 +27,33 @@ fn refused(number: u8) -> Examined
     }
 }
 
-// A repaired frame, tested and read.
+// A repaired frame, tested and read; the origin goes into the record.
 fn examine_word(
     edition: Edition,
+    origin: Origin,
     reference: u64,
     pattern: u64,
-    damage: Damage,
+    differing: u8,
     word: [u8; 26],
 ) -> Examined
-    ensures { λ r. ⌜ r ≡ wordExamined edition reference pattern damage word ⌝ }
+    ensures { λ r. ⌜ r ≡ wordExamined edition origin reference pattern differing word ⌝ }
 {
     let details = frame_refusals::word_details(edition, reference, pattern, &word);
     let number = frame_refusals::word_refusal(edition, &word, details);
     if number != 0 {
         return refused(number);
     }
-    let contents = details.contents;
+    let mut contents = details.contents;
+    contents.origin = origin;
     Examined {
-        reading: Reading::Accepted(contents, damage),
+        reading: Reading::Accepted(contents, differing),
         word,
     }
 }
 
 // Any bytes, tested in the order of the refusals and read.
-fn examine(edition: Edition, frame: &[u8]) -> Examined
-    ensures { λ r. ⌜ r ≡ examinedOf edition (now (frame .entry)) ⌝ }
+fn examine(edition: Edition, tuner: Tuner, frame: &[u8]) -> Examined
+    ensures { λ r. ⌜ r ≡ examinedOf edition tuner (now (frame .entry)) ⌝ }
 {
     match frame_refusals::preamble_of(frame) {
         Preamble::Passed(reference, pattern, differing) => {
@@ -58,12 +61,9 @@ fn examine(edition: Edition, frame: &[u8]) -> Examined
             let outcome = answer.outcome;
             match outcome {
                 Outcome::Repaired(repaired) => {
-                    let damage = Damage {
-                        repaired,
-                        differing,
-                    };
+                    let origin = Origin { tuner, repaired };
                     let word = answer.word;
-                    examine_word(edition, reference, pattern, damage, word)
+                    examine_word(edition, origin, reference, pattern, differing, word)
                 }
                 // the frame has 26 bytes, so there is no code word within eight places
                 Outcome::Refused(_) => refused(4),
@@ -73,11 +73,11 @@ fn examine(edition: Edition, frame: &[u8]) -> Examined
     }
 }
 
-// The record of a frame and what was damaged in it, or the refusal.
-pub fn read(edition: Edition, frame: &[u8]) -> Reading
-    ensures { λ r. ⌜ r ≡ readOf edition (now (frame .entry)) ⌝ }
+// The record of a frame, with the tuner told and the number of repaired places, and beside it the bits of B1 to B16 that differed; or the refusal.
+pub fn read(edition: Edition, tuner: Tuner, frame: &[u8]) -> Reading
+    ensures { λ r. ⌜ r ≡ readOf edition tuner (now (frame .entry)) ⌝ }
 {
-    let examined = examine(edition, frame);
+    let examined = examine(edition, tuner, frame);
     examined.reading
 }
 
@@ -85,10 +85,10 @@ pub fn read(edition: Edition, frame: &[u8]) -> Reading
 pub fn judge(edition: Edition, frame: &[u8]) -> Verdict
     ensures { λ r. ⌜ r ≡ judgeOf edition (now (frame .entry)) ⌝ }
 {
-    match read(edition, frame) {
-        Reading::Accepted(_, damage) => Verdict {
+    match read(edition, Tuner::None, frame) {
+        Reading::Accepted(contents, _) => Verdict {
             number: 0,
-            repaired: damage.repaired,
+            repaired: contents.origin.repaired,
         },
         Reading::Refused(number) => Verdict {
             number,
@@ -101,7 +101,7 @@ pub fn judge(edition: Edition, frame: &[u8]) -> Verdict
 pub fn clean(edition: Edition, frame: &[u8]) -> Cleaned
     ensures { λ r. ⌜ r ≡ cleanedOf edition (now (frame .entry)) ⌝ }
 {
-    let examined = examine(edition, frame);
+    let examined = examine(edition, Tuner::None, frame);
     let reading = examined.reading;
     match reading {
         Reading::Accepted(contents, _) => {

@@ -29,6 +29,9 @@ own-update-requires c κs = search needs
 array-write-v-4 : tie.Need-array-write-v-4
 array-write-v-4 c = search needs
 
+no-origin-requires : tie.Need-no-origin-requires
+no-origin-requires c κs = search needs
+
 slice-aggregate-record-of : tie.Need-slice-aggregate-record-of
 slice-aggregate-record-of c = search needs
 
@@ -37,10 +40,11 @@ record-of-requires c κs = search needs
 
 returns : tie.Need-returns
 returns c =
-    let s = c .before .before .before .before .before .before in
+    let s = c .before .before .before .before .before .before .before in
     let d = bits (now (s .args .details)) in
     details-read (s .args .body) (s .args .reference) (s .args .pattern) (s .args .identification) (s .args .update) d (omega (arith, length-bits (now (s .args .details)), s .pre))
-    (c .before .before .before .before .ones-hold .ensures) (c .before .before .before .read-fields .ensures) (c .before .before .own-update .ensures) (c .record-of .ensures)
+    (c .before .before .before .before .before .ones-hold .ensures) (c .before .before .before .before .read-fields .ensures) (c .before .before .before .own-update .ensures)
+    (c .before .before .no-origin .ensures) (c .record-of .ensures)
 
 pub read-details-spec : {M : Type 1} → statement M
 read-details-spec =
@@ -53,6 +57,7 @@ read-details-spec =
     array-write-v-3
     own-update-requires
     array-write-v-4
+    no-origin-requires
     slice-aggregate-record-of
     record-of-requires
     returns)
