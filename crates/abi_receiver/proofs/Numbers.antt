@@ -11,7 +11,7 @@ use Rattle.follower_events.specs.declared.Kind.the-variants.{Real, Test, Safety
 use Rattle.follower_events.specs.Events.{kindNumber, kindAt}
 use Rattle.follower.specs.declared.Follower.{Follower}
 use Rattle.follower.specs.declared.Follower.the-variants.{Quiet, Active}
-use Rattle.capture.specs.declared.Tuner.{Tuner}
+use Rattle.frame.specs.declared.Tuner.{Tuner}
 use Rattle.abi.specs.Status.{statusOf}
 use Rattle.abi_receiver.specs.Receiver.{stateNumber, stateOf, eventCase, tunerCase}
 

@@ -12,8 +12,8 @@ use Rattle.follower.specs.declared.Follower.{Follower}
 use Rattle.follower.specs.declared.Follower.the-variants.{Quiet, Active}
 use Rattle.follower.specs.declared.Step.{Step}
 use Rattle.capture.specs.Capture.{sourceOf, numberAt}
-use Rattle.capture.specs.declared.Tuner.{Tuner}
-use Rattle.capture.specs.declared.Tuner.the-variants.{Neither, Main, Spare}
+use Rattle.frame.specs.declared.Tuner.{Tuner}
+use Rattle.frame.specs.declared.Tuner.the-variants.{None, Main, Spare}
 use Rattle.abi.specs.Status.{statusOf}
 
 -- a state's number: 0 quiet, 4+u real, 8+u test, 12+u area safety information, 16+u its test, for the two low bits u of the update number
@@ -43,7 +43,7 @@ followStatus ed n f = stepStatus (stepOf ed (stateOf n) f)
 
 -- 0 neither, 1 main, 2 spare
 abbrev pub tunerCase : Tuner → ℕ
-tunerCase Neither = 0
+tunerCase None = 0
 tunerCase Main = 1
 tunerCase Spare = 2
 

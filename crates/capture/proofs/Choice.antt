@@ -12,8 +12,8 @@ use borrow.Author.Tests.{eq-eqb, ne-eqb, eqb-true, eqb-false, le-leb, lt-leb, le
 use Rattle.frame.specs.Read.{frameRefusal}
 use Rattle.capture.specs.Capture.{partAt, numberAt, sourceOf, bytesFrom, positionFrom}
 use Rattle.frame.specs.declared.Edition.{Edition}
-use Rattle.capture.specs.declared.Tuner.{Tuner}
-use Rattle.capture.specs.declared.Tuner.the-variants.{Neither, Main, Spare}
+use Rattle.frame.specs.declared.Tuner.{Tuner}
+use Rattle.frame.specs.declared.Tuner.the-variants.{None, Main, Spare}
 
 module _ (ed : Edition) where
   pub number-within : (c : List ℕ) (n : ℕ) → 26 * n + 26 ≤ length c → numberAt ed c n ≡ frameRefusal ed (partAt c n)
@@ -49,15 +49,15 @@ module _ (ed : Edition) where
     unfolding sourceOf
     source-spare m e = rw (ne-eqb (numberAt ed main n) 0 m, eq-eqb (numberAt ed spare n) 0 e)
 
-    pub source-neither : numberAt ed main n ≢ 0 → numberAt ed spare n ≢ 0 → sourceOf ed main spare n ≡ Neither
+    pub source-none : numberAt ed main n ≢ 0 → numberAt ed spare n ≢ 0 → sourceOf ed main spare n ≡ None
     unfolding sourceOf
-    source-neither m s = rw (ne-eqb (numberAt ed main n) 0 m, ne-eqb (numberAt ed spare n) 0 s)
+    source-none m s = rw (ne-eqb (numberAt ed main n) 0 m, ne-eqb (numberAt ed spare n) 0 s)
 
   -- the cases of two captures
   pub data Choice (main spare : List ℕ) (n : ℕ) : Type 0 where
     by-main : numberAt ed main n ≡ 0 → Choice main spare n
     by-spare : numberAt ed main n ≢ 0 → numberAt ed spare n ≡ 0 → Choice main spare n
-    by-neither : numberAt ed main n ≢ 0 → numberAt ed spare n ≢ 0 → Choice main spare n
+    by-none : numberAt ed main n ≢ 0 → numberAt ed spare n ≢ 0 → Choice main spare n
 
   pub choice : (main spare : List ℕ) (n : ℕ) → Choice main spare n
   choice main spare n = go (eqb (numberAt ed main n) 0) refl (eqb (numberAt ed spare n) 0) refl
@@ -65,7 +65,7 @@ module _ (ed : Edition) where
       go : (a : Bool) → eqb (numberAt ed main n) 0 ≡ a → (b : Bool) → eqb (numberAt ed spare n) 0 ≡ b → Choice main spare n
       go true p b q = by-main (eqb-true (numberAt ed main n) 0 p)
       go false p true q = by-spare (eqb-false (numberAt ed main n) 0 p) (eqb-true (numberAt ed spare n) 0 q)
-      go false p false q = by-neither (eqb-false (numberAt ed main n) 0 p) (eqb-false (numberAt ed spare n) 0 q)
+      go false p false q = by-none (eqb-false (numberAt ed main n) 0 p) (eqb-false (numberAt ed spare n) 0 q)
 
   -- a frame lies in the capture that it is taken from
   pub main-within : (main spare : List ℕ) (n : ℕ) → sourceOf ed main spare n ≡ Main → 26 * n + 26 ≤ length main
@@ -74,7 +74,7 @@ module _ (ed : Edition) where
       go : Choice main spare n → 26 * n + 26 ≤ length main
       go (by-main m) = accepted-within main n m
       go (by-spare m s) = let q = source-spare main spare n m s in let z : _≡_ {A = ℕ} 0 1 = cc in absurd (omega arith)
-      go (by-neither m s) = let q = source-neither main spare n m s in let z : _≡_ {A = ℕ} 0 1 = cc in absurd (omega arith)
+      go (by-none m s) = let q = source-none main spare n m s in let z : _≡_ {A = ℕ} 0 1 = cc in absurd (omega arith)
 
   pub spare-within : (main spare : List ℕ) (n : ℕ) → sourceOf ed main spare n ≡ Spare → 26 * n + 26 ≤ length spare
   spare-within main spare n e = go (choice main spare n)
@@ -82,11 +82,11 @@ module _ (ed : Edition) where
       go : Choice main spare n → 26 * n + 26 ≤ length spare
       go (by-main m) = let q = source-main main spare n m in let z : _≡_ {A = ℕ} 0 1 = cc in absurd (omega arith)
       go (by-spare m s) = accepted-within spare n s
-      go (by-neither m s) = let q = source-neither main spare n m s in let z : _≡_ {A = ℕ} 0 1 = cc in absurd (omega arith)
+      go (by-none m s) = let q = source-none main spare n m s in let z : _≡_ {A = ℕ} 0 1 = cc in absurd (omega arith)
 
 -- where neither has it: an empty part, cut from the main one's start
-pub neither-bytes : {t : Tuner} (main spare : List ℕ) (n : ℕ) → t ≡ Neither → [] ≡ bytesFrom t main spare n
-neither-bytes main spare n e = ap (λ (u : Tuner). bytesFrom u main spare n) (sym e)
+pub none-bytes : {t : Tuner} (main spare : List ℕ) (n : ℕ) → t ≡ None → [] ≡ bytesFrom t main spare n
+none-bytes main spare n e = ap (λ (u : Tuner). bytesFrom u main spare n) (sym e)
 
-pub neither-position : {t : Tuner} (main spare : ℕ × ℕ) (n : ℕ) → t ≡ Neither → (main .0, 0 + main .1) ≡ positionFrom t main spare n
-neither-position main spare n e = ap (λ (k : ℕ). (main .0, k)) (zero-add (main .1)) ∙ ap (λ (u : Tuner). positionFrom u main spare n) (sym e)
+pub none-position : {t : Tuner} (main spare : ℕ × ℕ) (n : ℕ) → t ≡ None → (main .0, 0 + main .1) ≡ positionFrom t main spare n
+none-position main spare n e = ap (λ (k : ℕ). (main .0, k)) (zero-add (main .1)) ∙ ap (λ (u : Tuner). positionFrom u main spare n) (sym e)

@@ -14,8 +14,8 @@ use Rattle.frame.specs.declared.Verdict.{Verdict}
 use Rattle.frame.proofs.Editions.{editions}
 use Rattle.capture.specs.Capture.{partAt, numberAt, sourceOf, bytesFrom, frameAt}
 use Rattle.capture.specs.Promises.{endToEnd, Whole, Tuners}
-use Rattle.capture.specs.declared.Tuner.{Tuner}
-use Rattle.capture.proofs.Choice.{number-within, number-past, accepted-part, source-main, source-spare, source-neither, Choice, by-main, by-spare, by-neither, choice}
+use Rattle.frame.specs.declared.Tuner.{Tuner}
+use Rattle.capture.proofs.Choice.{number-within, number-past, accepted-part, source-main, source-spare, source-none, Choice, by-main, by-spare, by-none, choice}
 
 -- ---- frame n
 
@@ -47,7 +47,7 @@ module _ (ed : Edition) where
     spare-otherwise m e = ap (λ (t : Tuner). bytesFrom t main spare n) (source-spare ed main spare n m e)
 
     empty : numberAt ed main n ≢ 0 → numberAt ed spare n ≢ 0 → frameAt ed main spare n ≡ []
-    empty m s = ap (λ (t : Tuner). bytesFrom t main spare n) (source-neither ed main spare n m s)
+    empty m s = ap (λ (t : Tuner). bytesFrom t main spare n) (source-none ed main spare n m s)
 
   -- an accepted frame is not empty
   not-empty : (c f : List ℕ) (n : ℕ) → numberAt ed c n ≡ 0 → f ≡ partAt c n → f ≢ []
@@ -59,7 +59,7 @@ module _ (ed : Edition) where
       go : Choice ed main spare n → (numberAt ed main n ≢ 0) × (numberAt ed spare n ≢ 0)
       go (by-main m) = absurd (not-empty main (frameAt ed main spare n) n m (main-first main spare n m) e)
       go (by-spare m s) = absurd (not-empty spare (frameAt ed main spare n) n s (spare-otherwise main spare n m s) e)
-      go (by-neither m s) = (m, s)
+      go (by-none m s) = (m, s)
 
   accepted : (main spare : List ℕ) (n : ℕ) → frameAt ed main spare n ≢ [] → (length (frameAt ed main spare n) ≡ 26) × (frameRefusal ed (frameAt ed main spare n) ≡ 0)
   accepted main spare n ne = go (choice ed main spare n)
@@ -67,7 +67,7 @@ module _ (ed : Edition) where
       go : Choice ed main spare n → (length (frameAt ed main spare n) ≡ 26) × (frameRefusal ed (frameAt ed main spare n) ≡ 0)
       go (by-main m) = rw (main-first main spare n m) (accepted-part ed main n m)
       go (by-spare m s) = rw (spare-otherwise main spare n m s) (accepted-part ed spare n s)
-      go (by-neither m s) = absurd (ne (empty main spare n m s))
+      go (by-none m s) = absurd (ne (empty main spare n m s))
 
   alike : (other : Edition) (c : List ℕ) (n : ℕ) → NotSafety (identificationIn (repairOf (partAt c n) .word)) → numberAt ed c n ≡ numberAt other c n
   unfolding numberAt judgeOf

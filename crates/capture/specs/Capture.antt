@@ -6,8 +6,8 @@ use lib.Dec.{eqb, leb}
 use lib.ListN.{length, take, drop}
 use Rattle.frame.specs.Read.{frameRefusal}
 use Rattle.frame.specs.declared.Edition.{Edition}
-use Rattle.capture.specs.declared.Tuner.{Tuner}
-use Rattle.capture.specs.declared.Tuner.the-variants.{Neither, Main, Spare}
+use Rattle.frame.specs.declared.Tuner.{Tuner}
+use Rattle.frame.specs.declared.Tuner.the-variants.{None, Main, Spare}
 use Rattle.capture.specs.declared.TunerNumbers.{TunerNumbers}
 
 -- frame n's bytes
@@ -24,13 +24,13 @@ numbersOf ed main spare n = record { main = numberAt ed main n; spare = numberAt
 
 -- the main one if accepted there, otherwise the spare one if accepted there
 unfoldable pub sourceOf : Edition → (main spare : List ℕ) → ℕ → Tuner
-sourceOf ed main spare n = cond (eqb (numberAt ed main n) 0) Main (cond (eqb (numberAt ed spare n) 0) Spare Neither)
+sourceOf ed main spare n = cond (eqb (numberAt ed main n) 0) Main (cond (eqb (numberAt ed spare n) 0) Spare None)
 
 -- the bytes of frame n in a tuner's capture; neither: an empty part
 abbrev pub bytesFrom : Tuner → (main spare : List ℕ) → ℕ → List ℕ
 bytesFrom Main main spare n = partAt main n
 bytesFrom Spare main spare n = partAt spare n
-bytesFrom Neither main spare n = []
+bytesFrom None main spare n = []
 
 -- what `frame_at` answers
 abbrev pub frameAt : Edition → (main spare : List ℕ) → ℕ → List ℕ
@@ -44,4 +44,4 @@ positionAt capture n = (capture .0, 26 * n + capture .1)
 abbrev pub positionFrom : Tuner → (main spare : ℕ × ℕ) → ℕ → ℕ × ℕ
 positionFrom Main main spare n = positionAt main n
 positionFrom Spare main spare n = positionAt spare n
-positionFrom Neither main spare n = main
+positionFrom None main spare n = main

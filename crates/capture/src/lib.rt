@@ -4,13 +4,7 @@ ghost use Prim.Native.Nat.{_+_, _*_, _≤_};
 ghost use lib.ListN.{length};
 ghost use Rattle.capture.specs.Capture.{partAt, positionAt, numberAt, numbersOf, sourceOf, bytesFrom, positionFrom};
 use frame::Edition;
-
-// The tuner that a frame is taken from.
-pub enum Tuner {
-    Neither,
-    Main,
-    Spare,
-}
+use frame::Tuner;
 
 // Both tuners' refusal numbers, 0 for accepted.
 pub struct TunerNumbers {
@@ -18,8 +12,8 @@ pub struct TunerNumbers {
     pub spare: u8,
 }
 
-// Frame n's own bytes, where they stand in the capture.
-fn part(capture: &[u8], n: usize) -> &[u8]
+// Frame n's own bytes, where they stand in the capture. It requires that they all lie there: its callers have tested that.
+pub fn part(capture: &[u8], n: usize) -> &[u8]
     requires { ⌜ 26 * n + 26 ≤ length (now capture) ⌝ }
     ensures bytes { λ r. ⌜ now r ≡ partAt (now (capture .entry)) n ⌝ }
     ensures place { λ r. ⌜ r .ptr ≡ positionAt (capture .entry .ptr) n ⌝ }
@@ -49,7 +43,7 @@ pub fn numbers(edition: Edition, main: &[u8], spare: &[u8], n: usize) -> TunerNu
     }
 }
 
-// Main where the frame is accepted there, otherwise spare where it is accepted there.
+// Main where the frame is accepted there, otherwise spare where it is accepted there, otherwise none.
 pub fn source(edition: Edition, main: &[u8], spare: &[u8], n: usize) -> Tuner
     ensures { λ r. ⌜ r ≡ sourceOf edition (now (main .entry)) (now (spare .entry)) n ⌝ }
 {
@@ -59,7 +53,7 @@ pub fn source(edition: Edition, main: &[u8], spare: &[u8], n: usize) -> Tuner
     if number(edition, spare, n) == 0 {
         return Tuner::Spare;
     }
-    Tuner::Neither
+    Tuner::None
 }
 
 // The frame's own bytes, where they stand in the capture that it is taken from; an empty part where neither has it.
@@ -74,7 +68,7 @@ pub fn frame_at<'a>(edition: Edition, main: &'a [u8], spare: &'a [u8], n: usize)
         Tuner::Spare => {
             return part(spare, n);
         }
-        Tuner::Neither => {
+        Tuner::None => {
             return &main[0..0];
         }
     }

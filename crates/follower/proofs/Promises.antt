@@ -3,7 +3,7 @@ use mathlib.Core.Path.{_≡_, refl, sym, ap, ap₂, _∙_, subst}
 use mathlib.Core.Bool.{Bool, true, false, true≢false, cond}
 use mathlib.Core.Logic.{_≢_, _⊎_, inl, inr}
 use mathlib.Core.List.{List, [], _∷_, _++_}
-use lib.ListN.{length, drop}
+use lib.ListN.{length, getD, drop}
 use Prim.Native.Nat.{ℕ, _+_, _%_, _<_}
 use native.Mathlib.Omega.{arith}
 use lib.Dec.{eqb, ltb}
@@ -12,22 +12,25 @@ use Rattle.bits.specs.Refusal.{firstRefusal}
 use Rattle.frame.specs.Identification.{classOf, isUndefined}
 use Rattle.bits.specs.Segment.{freeWidths}
 use Rattle.frame.specs.Body.{row, layout}
-use Rattle.frame.specs.Fields.{recordFrom, scatter, fieldWidths}
+use Rattle.frame.specs.Fields.{noOrigin, recordFrom, withOrigin, SameFields, scatter, fieldWidths}
 use Rattle.dsc.specs.Repair.{repairOf}
-use Rattle.frame.specs.Read.{identificationIn, noDamage, readOf, readingNumber}
-use Rattle.frame.specs.Promises.{NotSafety}
+use Rattle.frame.specs.Read.{identificationIn, readOf, readingNumber}
+use Rattle.frame.specs.Promises.{NotSafety, ComesBack}
 use Rattle.frame.specs.Write.{Legal, recordRefusal, frameOf}
 use Rattle.frame.specs.declared.Edition.{Edition}
 use Rattle.frame.specs.declared.Edition.the-variants.{First}
 use Rattle.frame.specs.declared.Class.{Class}
 use Rattle.frame.specs.declared.Class.the-variants as class
+use Rattle.frame.specs.declared.Tuner.{Tuner}
+use Rattle.frame.specs.declared.Tuner.the-variants.{None}
+use Rattle.frame.specs.declared.Origin.{Origin}
 use Rattle.frame.specs.declared.Record.{Record}
-use Rattle.frame.specs.declared.Damage.{Damage}
 use Rattle.frame.specs.declared.Reading.{Reading}
 use Rattle.frame.specs.declared.Reading.the-variants.{Accepted, Refused}
 use Rattle.frame.proofs.Bodies.{legal-sound}
 use Rattle.frame.proofs.Identifications.{class-alike, beyond, silent-class}
-use Rattle.frame.proofs.Promises.{read-identification, demand2}
+use Rattle.frame.proofs.Promises.{read-identification, demand2, origins}
+use Rattle.frame.proofs.Origins.{same-by}
 use Rattle.frame.proofs.Editions.{editions}
 use Rattle.follower_events.specs.declared.Kind.{Kind}
 use Rattle.follower_events.specs.declared.Kind.the-variants.{Real, Test}
@@ -47,6 +50,14 @@ seen-information class.Warning r e = refl
 seen-information class.SafetyInformation r e = refl
 seen-information class.Silent r e = absurd (true≢false (sym e))
 seen-information class.Undefined r e = absurd (true≢false (sym e))
+
+-- where a record came from is not seen
+from-seen : (c : Class) (o : Origin) (r : Record) → seenIn c (withOrigin o r) ≡ seenIn c r
+unfolding recordFrom
+from-seen class.Warning o r = refl
+from-seen class.SafetyInformation o r = refl
+from-seen class.Silent o r = refl
+from-seen class.Undefined o r = refl
 
 -- an accepted frame's event has the number 0
 change-number : (v u : ℕ) → eventNumber (changeOf v u) ≡ 0
@@ -72,26 +83,44 @@ silence-number (Active h v) = refl
 
 -- identification 0 to 3: a warning for all areas; 5 and 6: area safety information; 7, with update 0: no information
 announcing : (identification update : ℕ) → Record
-announcing i u = recordFrom (0 ∷ 0 ∷ i ∷ u ∷ [])
+announcing i u = recordFrom noOrigin (0 ∷ 0 ∷ i ∷ u ∷ [])
 
 module _ (ed : Edition) where
+  -- ---- the tuner does not matter
+
+  same-seen : (d : ℕ) (r y : Record) → SameFields r y → seenOf ed (Accepted r d) ≡ seenOf ed (Accepted y d)
+  unfolding recordFrom
+  same-seen d = same-by (λ (r : Record). seenIn (classOf ed (r .identification)) r) (λ o r. from-seen (classOf ed (r .identification)) o r)
+
+  any-seen : (t u : Tuner) (f : List ℕ) → seenOf ed (readOf ed t f) ≡ seenOf ed (readOf ed u f)
+  any-seen t u f = go (readOf ed t f) refl
+    where
+      go : (a : Reading) → readOf ed t f ≡ a → seenOf ed (readOf ed t f) ≡ seenOf ed (readOf ed u f)
+      go (Accepted r d) e =
+          let b = origins ed .other-tuner t u f r d e in
+          ap (seenOf ed) e ∙ same-seen d r (b .back) (b .same) ∙ ap (seenOf ed) (sym (b .accepted))
+      go (Refused n) e = ap (seenOf ed) (e ∙ sym (origins ed .other-refused t u f n e))
+
+  any-tuner : (t : Tuner) (s : Follower) (f : List ℕ) → stepOf ed s f ≡ stepSeen s (seenOf ed (readOf ed t f))
+  unfolding stepOf
+  any-tuner t s f = ap (stepSeen s) (any-seen None t f)
+
   -- ---- a step, by what the frame is
 
   step-informed : (s : Follower) (f : List ℕ) (k : Kind) (u : ℕ) → Informs ed f k u → stepOf ed s f ≡ record { next = Active k u; event = informationEvent s k u }
-  unfolding stepOf
   step-informed s f k u w =
-      ap (λ (r : Reading). stepSeen s (seenOf ed r)) (w .read)
+      any-tuner (w .tuner) s f
+      ∙ ap (λ (r : Reading). stepSeen s (seenOf ed r)) (w .read)
       ∙ ap (stepSeen s) (seen-information (classOf ed (w .message .identification)) (w .message) (w .class))
       ∙ ap₂ (λ (j : Kind) (v : ℕ). record { next = Active j v; event = informationEvent s j v }) (w .kind) (w .update)
 
   step-silenced : (s : Follower) (f : List ℕ) → Silences ed f → stepOf ed s f ≡ record { next = Quiet; event = silenceEvent s }
-  unfolding stepOf
   step-silenced s f w =
-      ap (λ (r : Reading). stepSeen s (seenOf ed r)) (w .read) ∙ ap (λ (c : Class). stepSeen s (seenIn c (w .message))) (w .class)
+      any-tuner (w .tuner) s f
+      ∙ ap (λ (r : Reading). stepSeen s (seenOf ed r)) (w .read) ∙ ap (λ (c : Class). stepSeen s (seenIn c (w .message))) (w .class)
 
-  step-refused : (s : Follower) (f : List ℕ) (n : ℕ) → readOf ed f ≡ Refused n → stepOf ed s f ≡ record { next = s; event = event.Refused n }
-  unfolding stepOf
-  step-refused s f n e = ap (λ (r : Reading). stepSeen s (seenOf ed r)) e
+  step-refused : (t : Tuner) (s : Follower) (f : List ℕ) (n : ℕ) → readOf ed t f ≡ Refused n → stepOf ed s f ≡ record { next = s; event = event.Refused n }
+  step-refused t s f n e = any-tuner t s f ∙ ap (λ (r : Reading). stepSeen s (seenOf ed r)) e
 
   event-informed : (s : Follower) (f : List ℕ) (k : Kind) (u : ℕ) → Informs ed f k u → stepOf ed s f .event ≡ informationEvent s k u
   event-informed s f k u w = ap (λ (t : Step). t .event) (step-informed s f k u w)
@@ -121,48 +150,68 @@ module _ (ed : Edition) where
 
   -- ---- what an accepted frame is
 
-  accepted : (f : List ℕ) (r : Record) (d : Damage) → readOf ed f ≡ Accepted r d → Informs ed f (kindOf (r .identification)) (r .update) ⊎ Silences ed f
-  accepted f r d e = go (classOf ed (r .identification)) refl
+  accepted : (t : Tuner) (f : List ℕ) (r : Record) (d : ℕ) → readOf ed t f ≡ Accepted r d → Informs ed f (kindOf (r .identification)) (r .update) ⊎ Silences ed f
+  accepted t f r d e = go (classOf ed (r .identification)) refl
     where
       go : (c : Class) → classOf ed (r .identification) ≡ c → Informs ed f (kindOf (r .identification)) (r .update) ⊎ Silences ed f
-      go class.Warning q = inl (record { message = r; damage = d; read = e; class = ap informs q; kind = refl; update = refl })
-      go class.SafetyInformation q = inl (record { message = r; damage = d; read = e; class = ap informs q; kind = refl; update = refl })
-      go class.Silent q = inr (record { message = r; damage = d; read = e; class = q })
-      go class.Undefined q = absurd (true≢false (sym (ap isUndefined q) ∙ legal-sound ed r (demand2 ed .read-legal f r d e) .known))
+      go class.Warning q = inl (record { tuner = t; message = r; differing = d; read = e; class = ap informs q; kind = refl; update = refl })
+      go class.SafetyInformation q = inl (record { tuner = t; message = r; differing = d; read = e; class = ap informs q; kind = refl; update = refl })
+      go class.Silent q = inr (record { tuner = t; message = r; differing = d; read = e; class = q })
+      go class.Undefined q = absurd (true≢false (sym (ap isUndefined q) ∙ legal-sound ed r (demand2 ed .read-legal t f r d e) .known))
 
-  numbered : (s : Follower) (f : List ℕ) → eventNumber (stepOf ed s f .event) ≡ readingNumber (readOf ed f)
-  numbered s f = go (readOf ed f) refl
+  numbered : (t : Tuner) (s : Follower) (f : List ℕ) → eventNumber (stepOf ed s f .event) ≡ readingNumber (readOf ed t f)
+  numbered t s f = go (readOf ed t f) refl
     where
       either : {k : Kind} {u : ℕ} → Informs ed f k u ⊎ Silences ed f → eventNumber (stepOf ed s f .event) ≡ 0
       either {k} {u} (inl w) = ap eventNumber (event-informed s f k u w) ∙ information-number s k u
       either (inr w) = ap (λ (t : Step). eventNumber (t .event)) (step-silenced s f w) ∙ silence-number s
 
-      go : (r : Reading) → readOf ed f ≡ r → eventNumber (stepOf ed s f .event) ≡ readingNumber (readOf ed f)
-      go (Accepted r d) e = either (accepted f r d e) ∙ sym (ap readingNumber e)
-      go (Refused n) e = ap (λ (t : Step). eventNumber (t .event)) (step-refused s f n e) ∙ sym (ap readingNumber e)
+      go : (r : Reading) → readOf ed t f ≡ r → eventNumber (stepOf ed s f .event) ≡ readingNumber (readOf ed t f)
+      go (Accepted r d) e = either (accepted t f r d e) ∙ sym (ap readingNumber e)
+      go (Refused n) e = ap (λ (x : Step). eventNumber (x .event)) (step-refused t s f n e) ∙ sym (ap readingNumber e)
 
   -- ---- two followers
 
-  forgets : (s t : Follower) (f : List ℕ) (r : Record) (d : Damage) → readOf ed f ≡ Accepted r d → stepOf ed s f .next ≡ stepOf ed t f .next
-  forgets s t f r d e = go (accepted f r d e)
+  forgets : (x : Tuner) (s t : Follower) (f : List ℕ) (r : Record) (d : ℕ) → readOf ed x f ≡ Accepted r d → stepOf ed s f .next ≡ stepOf ed t f .next
+  forgets x s t f r d e = go (accepted x f r d e)
     where
       go : {k : Kind} {u : ℕ} → Informs ed f k u ⊎ Silences ed f → stepOf ed s f .next ≡ stepOf ed t f .next
       go {k} {u} (inl w) = held s f k u w ∙ sym (held t f k u w)
       go (inr w) = ap (λ (x : Step). x .next) (step-silenced s f w) ∙ sym (ap (λ (x : Step). x .next) (step-silenced t f w))
 
-  heals : (s t : Follower) (fs : List (List ℕ)) (f : List ℕ) (gs : List (List ℕ)) (r : Record) (d : Damage) → readOf ed f ≡ Accepted r d
+  heals : (x : Tuner) (s t : Follower) (fs : List (List ℕ)) (f : List ℕ) (gs : List (List ℕ)) (r : Record) (d : ℕ) → readOf ed x f ≡ Accepted r d
       → stateAfter ed s (fs ++ f ∷ gs) ≡ stateAfter ed t (fs ++ f ∷ gs)
   unfolding stateAfter
-  heals s t [] f gs r d e = ap (λ (x : Follower). stateAfter ed x gs) (forgets s t f r d e)
-  heals s t (g ∷ fs) f gs r d e = heals (stepOf ed s g .next) (stepOf ed t g .next) fs f gs r d e
+  heals x s t [] f gs r d e = ap (λ (y : Follower). stateAfter ed y gs) (forgets x s t f r d e)
+  heals x s t (g ∷ fs) f gs r d e = heals x (stepOf ed s g .next) (stepOf ed t g .next) fs f gs r d e
 
-  heals-events : (s t : Follower) (fs : List (List ℕ)) (f : List ℕ) (gs : List (List ℕ)) (r : Record) (d : Damage) → readOf ed f ≡ Accepted r d
+  heals-events : (x : Tuner) (s t : Follower) (fs : List (List ℕ)) (f : List ℕ) (gs : List (List ℕ)) (r : Record) (d : ℕ) → readOf ed x f ≡ Accepted r d
       → drop (length (fs ++ f ∷ [])) (eventsOf ed s (fs ++ f ∷ gs)) ≡ drop (length (fs ++ f ∷ [])) (eventsOf ed t (fs ++ f ∷ gs))
   unfolding eventsOf
-  heals-events s t [] f gs r d e = ap (λ (x : Follower). eventsOf ed x gs) (forgets s t f r d e)
-  heals-events s t (g ∷ fs) f gs r d e = heals-events (stepOf ed s g .next) (stepOf ed t g .next) fs f gs r d e
+  heals-events x s t [] f gs r d e = ap (λ (y : Follower). eventsOf ed y gs) (forgets x s t f r d e)
+  heals-events x s t (g ∷ fs) f gs r d e = heals-events x (stepOf ed s g .next) (stepOf ed t g .next) fs f gs r d e
 
   -- ---- there are such frames
+
+  -- a frame that comes back as the record r, by what r is
+  module _ (r : Record) (f : List ℕ) where
+    identified : (b : ComesBack r None 0 0 (readOf ed None f)) → b .back .identification ≡ r .identification
+    identified b = sym (ap (λ (v : List ℕ). getD v 2 0) (b .same))
+
+    informed-back : informs (classOf ed (r .identification)) ≡ true → ComesBack r None 0 0 (readOf ed None f) → Informs ed f (kindOf (r .identification)) (r .update)
+    informed-back c b =
+        record {
+          tuner = None;
+          message = b .back;
+          differing = 0;
+          read = b .accepted;
+          class = ap (λ (n : ℕ). informs (classOf ed n)) (identified b) ∙ c;
+          kind = ap kindOf (identified b);
+          update = sym (ap (λ (v : List ℕ). getD v 3 0) (b .same));
+        }
+
+    silenced-back : classOf ed (r .identification) ≡ class.Silent → ComesBack r None 0 0 (readOf ed None f) → Silences ed f
+    silenced-back c b = record { tuner = None; message = b .back; differing = 0; read = b .accepted; class = ap (classOf ed) (identified b) ∙ c }
 
   -- it is legal, where the edition has it
   legal : (c : Class) (i u : ℕ) → classOf ed i ≡ c → informs c ≡ true → i < 8 → u < 4 → Legal ed (announcing i u)
@@ -184,43 +233,30 @@ module _ (ed : Edition) where
   unfolding announcing recordFrom
   some i u f h =
       let r = announcing i u in
-      record {
-        frame = frameOf ed r;
-        informing =
-            record {
-              message = r;
-              damage = noDamage;
-              read = demand2 ed .comes-back r (legal (classOf ed i) i u refl f (informs-lt i f) h);
-              class = f;
-              kind = refl;
-              update = refl;
-            };
-      }
+      let b = demand2 ed .comes-back None r (legal (classOf ed i) i u refl f (informs-lt i f) h) in
+      record { frame = frameOf ed r; informing = informed-back r (frameOf ed r) f b }
 
   silence-some : SomeSilence ed
   unfolding announcing recordFrom recordRefusal firstRefusal row layout scatter fieldWidths freeWidths
   silence-some =
       let r = announcing 7 0 in
       let legal : Legal ed r = rw (silent-class ed) in
-      record {
-        frame = frameOf ed r;
-        silences = record { message = r; damage = noDamage; read = demand2 ed .comes-back r legal; class = silent-class ed };
-      }
+      record { frame = frameOf ed r; silences = silenced-back r (frameOf ed r) (silent-class ed) (demand2 ed .comes-back None r legal) }
 
   -- ---- another edition
 
   alike : (other : Edition) (s : Follower) (f : List ℕ) → NotSafety (identificationIn (repairOf f .word)) → stepOf ed s f ≡ stepOf other s f
   unfolding stepOf
-  alike other s f n = go (readOf ed f) refl
+  alike other s f n = go (readOf ed None f) refl
     where
-      same-read : readOf ed f ≡ readOf other f
-      same-read = editions .frame-alike ed other f n .read
+      same-read : readOf ed None f ≡ readOf other None f
+      same-read = editions .frame-alike ed other f n .read None
 
-      go : (a : Reading) → readOf ed f ≡ a → stepSeen s (seenOf ed (readOf ed f)) ≡ stepSeen s (seenOf other (readOf other f))
+      go : (a : Reading) → readOf ed None f ≡ a → stepSeen s (seenOf ed (readOf ed None f)) ≡ stepSeen s (seenOf other (readOf other None f))
       go (Accepted r d) e =
           let i = r .identification in
           let class : classOf ed i ≡ classOf other i =
-          class-alike ed other i (subst NotSafety (sym (read-identification ed f r d e)) n) in
+          class-alike ed other i (subst NotSafety (sym (read-identification ed None f r d e)) n) in
           rw (sym same-read, e, class)
       go (Refused m) e = rw (sym same-read, e)
 
@@ -240,6 +276,7 @@ module _ (ed : Edition) where
         refused = step-refused;
         accepted = accepted;
         numbered = numbered;
+        any-tuner = any-tuner;
         forgets = forgets;
         heals = heals;
         heals-events = heals-events;

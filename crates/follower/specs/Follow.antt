@@ -1,4 +1,4 @@
--- Following the update number (document 01, "Following the update number"; document 02, a), by the edition named. Assumes nothing.
+-- Following the update number (document 01, "Following the update number"; document 02, a) and j), by the edition named. Assumes nothing.
 use mathlib.Core.Bool.{Bool, true, false, cond}
 use mathlib.Core.List.{List}
 use Prim.Native.Nat.{ℕ}
@@ -7,6 +7,7 @@ use Rattle.frame.specs.Read.{readOf}
 use Rattle.frame.specs.declared.Edition.{Edition}
 use Rattle.frame.specs.declared.Class.{Class}
 use Rattle.frame.specs.declared.Class.the-variants as class
+use Rattle.frame.specs.declared.Tuner.the-variants as tuner
 use Rattle.frame.specs.declared.Record.{Record}
 use Rattle.frame.specs.declared.Reading.{Reading}
 use Rattle.frame.specs.declared.Reading.the-variants as reading
@@ -54,9 +55,9 @@ abbrev pub seenOf : Edition → Reading → Seen
 seenOf ed (reading.Accepted r d) = seenIn (classOf ed (r .identification)) r
 seenOf ed (reading.Refused n) = seen.Refused n
 
--- what `step` answers
+-- what `step` answers; it is told no tuner, since none matters (`any-tuner`)
 unfoldable pub stepOf : Edition → Follower → List ℕ → Step
-stepOf ed s f = stepSeen s (seenOf ed (readOf ed f))
+stepOf ed s f = stepSeen s (seenOf ed (readOf ed tuner.None f))
 
 -- document 01's number of an event
 abbrev pub eventNumber : Event → ℕ

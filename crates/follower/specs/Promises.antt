@@ -1,4 +1,4 @@
--- What this crate promises, in the words of documents 01 and 02, a). The records have one value each, `Following` for every edition, proved in
+-- What this crate promises, in the words of documents 01 and 02, a) and j). The records have one value each, `Following` for every edition, proved in
 -- proofs/Promises.antt. "Information" is a warning or area safety information, a test of either too. Assumes nothing.
 use mathlib.Core.Path.{_≡_}
 use mathlib.Core.Bool.{true}
@@ -13,8 +13,8 @@ use Rattle.frame.specs.Promises.{NotSafety}
 use Rattle.frame.specs.declared.Edition.{Edition}
 use Rattle.frame.specs.declared.Edition.the-variants.{First}
 use Rattle.frame.specs.declared.Class.the-variants as class
+use Rattle.frame.specs.declared.Tuner.{Tuner}
 use Rattle.frame.specs.declared.Record.{Record}
-use Rattle.frame.specs.declared.Damage.{Damage}
 use Rattle.frame.specs.declared.Reading.the-variants.{Accepted, Refused}
 use Rattle.follower_events.specs.declared.Kind.{Kind}
 use Rattle.follower_events.specs.declared.Kind.the-variants.{Real, Test, Safety, SafetyTest}
@@ -23,22 +23,24 @@ use Rattle.follower_events.specs.declared.Event.the-variants as event
 use Rattle.follower.specs.declared.Follower.{Follower}
 use Rattle.follower.specs.declared.Follower.the-variants.{Quiet, Active}
 use Rattle.follower_events.specs.Events.{kindOf}
-use Rattle.follower.specs.Follow.{informs, eventNumber, stepOf}
+use Rattle.follower.specs.Follow.{informs, stepSeen, seenOf, stepOf, eventNumber}
 
--- the frame f is accepted, and has information of kind k with the update number u
+-- the frame f is accepted, from any tuner, and has information of kind k with the update number u
 pub record Informs (ed : Edition) (f : List ℕ) (k : Kind) (u : ℕ) : Type 0 where
+  pub tuner : Tuner
   pub message : Record
-  pub damage : Damage
-  pub read : readOf ed f ≡ Accepted message damage
+  pub differing : ℕ
+  pub read : readOf ed tuner f ≡ Accepted message differing
   pub class : informs (classOf ed (message .identification)) ≡ true
   pub kind : kindOf (message .identification) ≡ k
   pub update : message .update ≡ u
 
--- the frame f is accepted, and says that there is no information
+-- the frame f is accepted, from any tuner, and says that there is no information
 pub record Silences (ed : Edition) (f : List ℕ) : Type 0 where
+  pub tuner : Tuner
   pub message : Record
-  pub damage : Damage
-  pub read : readOf ed f ≡ Accepted message damage
+  pub differing : ℕ
+  pub read : readOf ed tuner f ≡ Accepted message differing
   pub class : classOf ed (message .identification) ≡ class.Silent
 
 -- a frame that says so
@@ -83,18 +85,20 @@ pub record Following (ed : Edition) : Type 0 where
   -- some frame says that there is no information
   pub silence-some : SomeSilence ed
   -- a refused frame gives its number and the old state
-  pub refused : (s : Follower) (f : List ℕ) (n : ℕ) → readOf ed f ≡ Refused n → stepOf ed s f ≡ record { next = s; event = event.Refused n }
+  pub refused : (t : Tuner) (s : Follower) (f : List ℕ) (n : ℕ) → readOf ed t f ≡ Refused n → stepOf ed s f ≡ record { next = s; event = event.Refused n }
   -- every accepted frame has information or says that there is none
-  pub accepted : (f : List ℕ) (r : Record) (d : Damage) → readOf ed f ≡ Accepted r d → Informs ed f (kindOf (r .identification)) (r .update) ⊎ Silences ed f
+  pub accepted : (t : Tuner) (f : List ℕ) (r : Record) (d : ℕ) → readOf ed t f ≡ Accepted r d → Informs ed f (kindOf (r .identification)) (r .update) ⊎ Silences ed f
   -- the event has the frame's number, 0 where it is accepted
-  pub numbered : (s : Follower) (f : List ℕ) → eventNumber (stepOf ed s f .event) ≡ readingNumber (readOf ed f)
+  pub numbered : (t : Tuner) (s : Follower) (f : List ℕ) → eventNumber (stepOf ed s f .event) ≡ readingNumber (readOf ed t f)
+  -- whichever tuner the frame came from, the step is the same: by what the reader says of it, told that tuner
+  pub any-tuner : (t : Tuner) (s : Follower) (f : List ℕ) → stepOf ed s f ≡ stepSeen s (seenOf ed (readOf ed t f))
   -- after an accepted frame the next state does not depend on the old one
-  pub forgets : (s t : Follower) (f : List ℕ) (r : Record) (d : Damage) → readOf ed f ≡ Accepted r d → stepOf ed s f .next ≡ stepOf ed t f .next
+  pub forgets : (x : Tuner) (s t : Follower) (f : List ℕ) (r : Record) (d : ℕ) → readOf ed x f ≡ Accepted r d → stepOf ed s f .next ≡ stepOf ed t f .next
   -- so a restart is healed by the first accepted frame, whatever came before it
-  pub heals : (s t : Follower) (fs : List (List ℕ)) (f : List ℕ) (gs : List (List ℕ)) (r : Record) (d : Damage) → readOf ed f ≡ Accepted r d
+  pub heals : (x : Tuner) (s t : Follower) (fs : List (List ℕ)) (f : List ℕ) (gs : List (List ℕ)) (r : Record) (d : ℕ) → readOf ed x f ≡ Accepted r d
       → stateAfter ed s (fs ++ f ∷ gs) ≡ stateAfter ed t (fs ++ f ∷ gs)
   -- and every event after that frame is the same too
-  pub heals-events : (s t : Follower) (fs : List (List ℕ)) (f : List ℕ) (gs : List (List ℕ)) (r : Record) (d : Damage) → readOf ed f ≡ Accepted r d
+  pub heals-events : (x : Tuner) (s t : Follower) (fs : List (List ℕ)) (f : List ℕ) (gs : List (List ℕ)) (r : Record) (d : ℕ) → readOf ed x f ≡ Accepted r d
       → drop (length (fs ++ f ∷ [])) (eventsOf ed s (fs ++ f ∷ gs)) ≡ drop (length (fs ++ f ∷ [])) (eventsOf ed t (fs ++ f ∷ gs))
   -- which edition is named does not matter to a frame whose repaired identification is not 5 or 6
   pub alike : (other : Edition) (s : Follower) (f : List ℕ) → NotSafety (identificationIn (repairOf f .word)) → stepOf ed s f ≡ stepOf other s f

@@ -67,7 +67,7 @@ pub fn seen_of(edition: Edition, reading: Reading) -> Seen
 {
     match reading {
         Reading::Refused(n) => Seen::Refused(n),
-        Reading::Accepted(message, damage) => seen_in(
+        Reading::Accepted(message, differing) => seen_in(
             frame_kinds::class_of(edition, message.identification),
             message,
         ),

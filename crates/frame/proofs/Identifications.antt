@@ -27,6 +27,24 @@ class-alike ed other i n = in-schedule1 ed i n ∙ sym (in-schedule1 other i n)
 pub warning-class : (ed : Edition) (i : ℕ) → i ≤ 3 → classOf ed i ≡ Warning
 warning-class ed i h = in-schedule1 ed i ((λ e. omega arith), (λ e. omega arith)) ∙ rw (le-leb i 3 h)
 
+-- and only those
+schedule1-warning : (i : ℕ) → schedule1 i ≡ Warning → i ≤ 3
+schedule1-warning i = go (leb i 3) (eqb i 7) refl
+  where
+    go : (s t : Bool) → leb i 3 ≡ s → cond s Warning (cond t Silent Undefined) ≡ Warning → i ≤ 3
+    go true t q e = leb-true i 3 q
+    go false true q e = let z : _≡_ {A = ℕ} 0 1 = cc in absurd (omega arith)
+    go false false q e = let z : _≡_ {A = ℕ} 0 1 = cc in absurd (omega arith)
+
+pub warning-only : (ed : Edition) (i : ℕ) → classOf ed i ≡ Warning → i ≤ 3
+unfolding classOf
+warning-only First i e = schedule1-warning i e
+warning-only AreaSafety i e = go (eqb i 5 || eqb i 6) e
+  where
+    go : (s : Bool) → cond s SafetyInformation (schedule1 i) ≡ Warning → i ≤ 3
+    go true q = let z : _≡_ {A = ℕ} 0 1 = cc in absurd (omega arith)
+    go false q = schedule1-warning i q
+
 pub beyond : (ed : Edition) (i : ℕ) → 7 < i → classOf ed i ≡ Undefined
 beyond ed i h = in-schedule1 ed i ((λ e. omega arith), (λ e. omega arith)) ∙ rw (lt-leb i 3 (omega arith), ne-eqb i 7 (λ e. omega arith))
 

@@ -47,6 +47,10 @@ module _ (ed : Edition) where
   unfolding recordFrom frameOf messageBits announced bodyValues
   from-frame o r = refl
 
+  -- they have one frame
+  pub same-frame : (r s : Record) → SameFields r s → frameOf ed r ≡ frameOf ed s
+  same-frame = same-by (frameOf ed) from-frame
+
   from-number : (n : ℕ) (o : Origin) (r : Record) → writeNumber ed (withOrigin o r) n ≡ writeNumber ed r n
   unfolding writeNumber
   from-number n o r = rw (from-refusal o r)

@@ -15,16 +15,18 @@ use Rattle.bits.proofs.Bits.{length-bits, length-bytes, bytes-bits, bytes-Bytes
 use Rattle.gf2.specs.Polynomial.{zeros, add}
 use Rattle.sync_pattern.specs.Pattern.{patternBits, differingFrom, syncOf}
 use Rattle.dsc.specs.Repair.{repairOf}
-use Rattle.frame.specs.Read.{identificationIn, noDamage, frameRefusal, judgeOf, readOf, cleanOf}
-use Rattle.frame.specs.Promises.{NotSafety}
+use Rattle.frame.specs.Read.{identificationIn, frameRefusal, judgeOf, readOf, cleanOf}
+use Rattle.frame.specs.Promises.{NotSafety, ComesBack}
 use Rattle.frame.specs.declared.Edition.{Edition}
 use Rattle.frame.specs.Write.{frameOf, Legal}
+use Rattle.frame.specs.declared.Tuner.{Tuner}
+use Rattle.frame.specs.declared.Tuner.the-variants.{None}
 use Rattle.frame.specs.declared.Record.{Record}
-use Rattle.frame.specs.declared.Damage.{Damage}
 use Rattle.frame.specs.declared.Verdict.{Verdict}
 use Rattle.frame.specs.declared.Reading.the-variants.{Accepted}
 use Rattle.frame.proofs.Parts.{take-drop-take}
 use Rattle.frame.proofs.Frames.{parts-frame}
+use Rattle.frame.proofs.Origins.{same-frame}
 use Rattle.frame.proofs.Promises as frame
 use Rattle.frame.proofs.Editions.{editions}
 use Rattle.header.specs.Header.{frontIn, headerRefusal}
@@ -180,32 +182,37 @@ module _ (ed : Edition) where
       ∙ ap₂ bytes (sym (length-clean f)) (take-append-drop 204 b)
       ∙ bytes-bits (cleanOf f) (Bytes-clean f)
 
-  frame-accepted : (f : List ℕ) (r : Record) (d : Damage) → readOf ed f ≡ Accepted r d → frameRefusal ed f ≡ 0
+  frame-accepted : (t : Tuner) (f : List ℕ) (r : Record) (d : ℕ) → readOf ed t f ≡ Accepted r d → frameRefusal ed f ≡ 0
   unfolding judgeOf
-  frame-accepted f r d e = ap (λ (v : Verdict). v .number) (frame.demand2 ed .judged-accepted f r d e)
+  frame-accepted t f r d e = ap (λ (v : Verdict). v .number) (frame.demand2 ed .judged-accepted t f r d e)
 
-  laid-read : (h f : List ℕ) (r : Record) (d : Damage) → headerRefusal h ≡ 0 → readOf ed f ≡ Accepted r d
-      → readOf ed (bytes 26 (acBits (layInOf ed h f) ++ zeros 4)) ≡ Accepted r noDamage
-  laid-read h f r d e a =
-      let n : layInNumber ed h f ≡ 0 = then-frame h f e ∙ frame-accepted f r d a in
-      ap (λ (x : List Bool). readOf ed (bytes 26 (x ++ zeros 4))) (laid-bits h f n)
-      ∙ ap (readOf ed) (repaired-frame f r (frame.demand2 ed .written-again f r d a))
-      ∙ frame.demand2 ed .mended-read f r d a
+  laid-read : (t u : Tuner) (h f : List ℕ) (r : Record) (d : ℕ) → headerRefusal h ≡ 0 → readOf ed t f ≡ Accepted r d
+      → ComesBack r u 0 0 (readOf ed u (bytes 26 (acBits (layInOf ed h f) ++ zeros 4)))
+  laid-read t u h f r d e a =
+      let n : layInNumber ed h f ≡ 0 = then-frame h f e ∙ frame-accepted t f r d a in
+      let laid : cleanOf f ≡ bytes 26 (acBits (layInOf ed h f) ++ zeros 4) =
+      sym
+      (ap (λ (x : List Bool). bytes 26 (x ++ zeros 4)) (laid-bits h f n)
+      ∙ repaired-frame f r (frame.demand2 ed .written-again t f r d a)) in
+      subst (λ (g : List ℕ). ComesBack r u 0 0 (readOf ed u g)) laid (frame.demand2 ed .mended-read t u f r d a)
 
-  laid-pattern : (h f : List ℕ) (r : Record) (d : Damage) → headerRefusal h ≡ 0 → readOf ed f ≡ Accepted r d
+  laid-pattern : (t : Tuner) (h f : List ℕ) (r : Record) (d : ℕ) → headerRefusal h ≡ 0 → readOf ed t f ≡ Accepted r d
       → take 16 (drop 1 (acBits (layInOf ed h f))) ≡ patternBits (r .pattern)
-  laid-pattern h f r d e a =
-      let n : layInNumber ed h f ≡ 0 = then-frame h f e ∙ frame-accepted f r d a in
+  laid-pattern t h f r d e a =
+      let n : layInNumber ed h f ≡ 0 = then-frame h f e ∙ frame-accepted t f r d a in
       ap (λ (x : List Bool). take 16 (drop 1 x)) (laid-bits h f n)
       ∙ take-drop-take 16 1 204 (bits (cleanOf f)) (omega arith)
-      ∙ frame.demand2 ed .mended f r d a .pattern
+      ∙ frame.demand2 ed .mended t f r d a .pattern
 
   -- an undamaged frame is laid in as it stands
   pub laid-own : (h : List ℕ) (r : Record) → headerRefusal h ≡ 0 → Legal ed r → layInOf ed h (frameOf ed r) ≡ withAc h (take 204 (bits (frameOf ed r)))
   laid-own h r e l =
-      let back = frame.demand2 ed .comes-back r l in
-      laid-with h (frameOf ed r) (then-frame h (frameOf ed r) e ∙ frame-accepted (frameOf ed r) r noDamage back)
-      ∙ ap (λ (g : List ℕ). withAc h (take 204 (bits g))) (sym (frame.demand2 ed .written-again (frameOf ed r) r noDamage back))
+      let f = frameOf ed r in
+      let b = frame.demand2 ed .comes-back None r l in
+      let own : cleanOf f ≡ f =
+      sym (frame.demand2 ed .written-again None f (b .back) 0 (b .accepted)) ∙ same-frame ed (b .back) r (sym (b .same)) in
+      laid-with h f (then-frame h f e ∙ frame-accepted None f (b .back) 0 (b .accepted))
+      ∙ ap (λ (g : List ℕ). withAc h (take 204 (bits g))) own
 
   alike : (other : Edition) (h f : List ℕ) → NotSafety (identificationIn (repairOf f .word))
       → (layInNumber ed h f ≡ layInNumber other h f) × (layInOf ed h f ≡ layInOf other h f)

@@ -1,4 +1,4 @@
--- What laying in and taking out promise, in the words of demand 2 and of documents 01 and 02, a) and e). The records have one value each, `Laying` for every
+-- What laying in and taking out promise, in the words of demand 2 and of documents 01 and 02, a), e) and j). The records have one value each, `Laying` for every
 -- edition, proved in proofs/Promises.antt. Assumes nothing.
 use mathlib.Core.Path.{_≡_}
 use mathlib.Core.Bool.{true}
@@ -9,12 +9,12 @@ use lib.ListN.{length, take, drop, replicate}
 use Rattle.bits.specs.Bits.{bits, bytes, Bytes}
 use Rattle.gf2.specs.Polynomial.{zeros}
 use Rattle.dsc.specs.Repair.{repairOf}
-use Rattle.frame.specs.Read.{identificationIn, noDamage, readOf, frameRefusal}
-use Rattle.frame.specs.Promises.{NotSafety}
+use Rattle.frame.specs.Read.{identificationIn, readOf, frameRefusal}
+use Rattle.frame.specs.Promises.{NotSafety, ComesBack}
 use Rattle.frame.specs.declared.Edition.{Edition}
 use Rattle.sync_pattern.specs.Pattern.{patternBits}
+use Rattle.frame.specs.declared.Tuner.{Tuner}
 use Rattle.frame.specs.declared.Record.{Record}
-use Rattle.frame.specs.declared.Damage.{Damage}
 use Rattle.frame.specs.declared.Reading.the-variants.{Accepted}
 use Rattle.header.specs.Header.{frontIn, headerRefusal}
 use Rattle.header_laying.specs.Laying.{acBits, repairedBits, layInNumber, layInOf, takeOutOf}
@@ -32,11 +32,11 @@ pub record Laying (ed : Edition) : Type 0 where
   pub laid-accepted : (h f : List ℕ) → layInNumber ed h f ≡ 0 → headerRefusal (layInOf ed h f) ≡ 0
   -- and its 204 bits are the frame's repaired ones
   pub laid-bits : (h f : List ℕ) → layInNumber ed h f ≡ 0 → acBits (layInOf ed h f) ≡ repairedBits f
-  -- so that, with the filler, they are read as the frame's record
-  pub laid-read : (h f : List ℕ) (r : Record) (d : Damage) → headerRefusal h ≡ 0 → readOf ed f ≡ Accepted r d
-      → readOf ed (bytes 26 (acBits (layInOf ed h f) ++ zeros 4)) ≡ Accepted r noDamage
+  -- so that, with the filler, they are read as the frame's record, with whichever tuner is then told, the count 0 and no bit that differs
+  pub laid-read : (t u : Tuner) (h f : List ℕ) (r : Record) (d : ℕ) → headerRefusal h ≡ 0 → readOf ed t f ≡ Accepted r d
+      → ComesBack r u 0 0 (readOf ed u (bytes 26 (acBits (layInOf ed h f) ++ zeros 4)))
   -- and B1 to B16 are the clean pattern, whatever bits of them differed
-  pub laid-pattern : (h f : List ℕ) (r : Record) (d : Damage) → headerRefusal h ≡ 0 → readOf ed f ≡ Accepted r d
+  pub laid-pattern : (t : Tuner) (h f : List ℕ) (r : Record) (d : ℕ) → headerRefusal h ≡ 0 → readOf ed t f ≡ Accepted r d
       → take 16 (drop 1 (acBits (layInOf ed h f))) ≡ patternBits (r .pattern)
   -- everything else stays, the change number too
   pub laid-outside : (h f : List ℕ) → SameOutsideAc (layInOf ed h f) h

@@ -5,15 +5,17 @@ use mathlib.Core.Logic.{_≢_}
 use mathlib.Core.List.{[], _∷_}
 use lib.Dec.{eqb}
 use borrow.Author.Tests.{eqb-true, eqb-false}
-use Rattle.frame.specs.Fields.{recordBody}
+use Rattle.frame.specs.Fields.{recordFrom, withOrigin, recordBody}
 use Rattle.frame.specs.Write.{Legal, recordRefusal}
 use Rattle.frame.specs.Promises.{NotSafety}
 use Rattle.frame.specs.declared.Edition.{Edition}
 use Rattle.frame.specs.declared.Body.{Body}
 use Rattle.frame.specs.declared.Body.the-variants.{AreaPage, PlacePage, CancelPage, SafetyDetails, NoInformation}
+use Rattle.frame.specs.declared.Origin.{Origin}
 use Rattle.frame.specs.declared.Record.{Record}
 use Rattle.frame.proofs.Identifications.{class-alike}
 use Rattle.frame.proofs.Editions.{editions}
+use Rattle.frame.proofs.Origins.{same-by, from-refusal}
 use Rattle.place.specs.Degrees.{degreesOf, kilometresOf, placeOf}
 use Rattle.place.specs.Desk.{SameBits, conversionOf}
 use Rattle.place.specs.declared.Place.{Place}
@@ -38,6 +40,15 @@ body-told PlacePage r n = absurd (n refl)
 body-told CancelPage r n = refl
 body-told SafetyDetails r n = refl
 body-told NoInformation r n = refl
+
+-- where a record came from is not reported
+from-body : (b : Body) (o : Origin) (r : Record) → reportedBy b (withOrigin o r) ≡ reportedBy b r
+unfolding recordFrom
+from-body AreaPage o r = refl
+from-body PlacePage o r = refl
+from-body CancelPage o r = refl
+from-body SafetyDetails o r = refl
+from-body NoInformation o r = refl
 
 module _ (ed : Edition) where
   numbered : (r : Record) → reportNumber (reportOf ed r) ≡ recordRefusal ed r
@@ -88,6 +99,10 @@ module _ (ed : Edition) where
   unfolding reportOf
   alike other r n = rw (editions .record-alike ed other r n .refusal, class-alike ed other (r .identification) n)
 
+  from-report : (o : Origin) (r : Record) → reportOf ed (withOrigin o r) ≡ reportOf ed r
+  unfolding reportOf recordFrom
+  from-report o r = rw (from-refusal ed o r, from-body (recordBody ed r) o r)
+
   pub reports : Reports ed
   reports =
       record {
@@ -103,5 +118,6 @@ module _ (ed : Edition) where
         desk-again = desk-again;
         report-again = report-again;
         desk-reported = desk-reported;
+        same-report = same-by (reportOf ed) from-report;
         alike = alike;
       }

@@ -1,9 +1,9 @@
--- What this crate promises, in the words of documents 01 and 02, a). The record has one value for every edition, proved in proofs/Promises.antt. Assumes
+-- What this crate promises, in the words of documents 01 and 02, a) and j). The record has one value for every edition, proved in proofs/Promises.antt. Assumes
 -- nothing.
 use mathlib.Core.Path.{_≡_}
 use mathlib.Core.Logic.{_≢_}
 use mathlib.Core.List.{[], _∷_}
-use Rattle.frame.specs.Fields.{recordBody}
+use Rattle.frame.specs.Fields.{SameFields, recordBody}
 use Rattle.frame.specs.Write.{Legal, recordRefusal}
 use Rattle.frame.specs.Promises.{NotSafety}
 use Rattle.frame.specs.declared.Edition.{Edition}
@@ -45,6 +45,7 @@ withPlace r f =
       occurred = r .occurred;
       broadcaster = r .broadcaster;
       region = r .region;
+      origin = r .origin;
     }
 
 -- a report of a place
@@ -72,5 +73,7 @@ pub record Reports (ed : Edition) : Type 0 where
   -- and a place that the desk accepts, put into a record of a place, is reported with the very same bits
   pub desk-reported : (r : Record) (p : Place) (f : Fields) → Legal ed r → recordBody ed r ≡ PlacePage → conversionOf p ≡ Converted f
       → (reportOf ed (withPlace r f) ≡ reportsPlace (placeOf f)) × SameBits p (placeOf f)
+  -- where a record came from does not matter: records that differ in the tuner and the number of repaired places alone report the same
+  pub same-report : (r s : Record) → SameFields r s → reportOf ed r ≡ reportOf ed s
   -- which edition is named does not matter to a record that is not area safety information
   pub alike : (other : Edition) (r : Record) → NotSafety (r .identification) → reportOf ed r ≡ reportOf other r

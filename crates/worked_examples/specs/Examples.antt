@@ -10,12 +10,14 @@ use Rattle.crc.specs.Examples.{covered}
 use Rattle.dsc.specs.Code.{CodeWord, weight}
 use Rattle.dsc.specs.Repair.{protected, wordBytes, repairedTo, refusedWith, repairOf}
 use Rattle.dsc.specs.Worked.{generatorWord, firstPlaces, SomePlaces}
-use Rattle.frame.specs.Read.{noDamage, readOf}
+use Rattle.frame.specs.Promises.{ComesBack}
+use Rattle.frame.specs.Read.{readOf}
 use Rattle.frame.specs.Write.{Legal, recordRefusal, frameOf}
 use Rattle.frame.specs.Worked.{AtLatitude, atLatitude}
 use Rattle.frame.specs.declared.Edition.the-variants.{First}
+use Rattle.frame.specs.declared.Tuner.{Tuner}
 use Rattle.frame.specs.declared.Record.{Record}
-use Rattle.frame.specs.declared.Reading.the-variants.{Accepted, Refused}
+use Rattle.frame.specs.declared.Reading.the-variants.{Refused}
 use Rattle.follower.specs.Follow.{stepOf}
 use Rattle.follower.specs.Promises.{Informs, Some}
 use Rattle.follower_events.specs.declared.Kind.{Kind}
@@ -42,11 +44,12 @@ pub record Examples : Type 0 where
   -- 7. CRC with only B110 set: 1001010101; with both: 0001100110
   pub example7-one : crc10 (covered (110 ∷ [])) ≡ bitsOf 10 0b1001010101
   pub example7-both : crc10 (covered (110 ∷ 111 ∷ [])) ≡ bitsOf 10 0b0001100110
-  -- 8. latitude 900 accepted, 901 refused 9: by the writer, and by the reader of the frame that holds these fields; there are such records
+  -- 8. latitude 900 accepted, 901 refused 9: by the writer, and by the reader, with any tuner told, of the frame that holds these fields; there are such
+  -- records
   pub example8-written : (r : Record) → AtLatitude 900 r → Legal First r
-  pub example8-read : (r : Record) → AtLatitude 900 r → readOf First (frameOf First r) ≡ Accepted r noDamage
+  pub example8-read : (t : Tuner) (r : Record) → AtLatitude 900 r → ComesBack r t 0 0 (readOf First t (frameOf First r))
   pub example8-not-written : (r : Record) → AtLatitude 901 r → recordRefusal First r ≡ 9
-  pub example8-not-read : (r : Record) → AtLatitude 901 r → readOf First (frameOf First r) ≡ Refused 9
+  pub example8-not-read : (t : Tuner) (r : Record) → AtLatitude 901 r → readOf First t (frameOf First r) ≡ Refused 9
   pub example8-some : (n : ℕ) → n < 1024 → AtLatitude n (atLatitude n)
   -- 9. update 3 then 0, same kind: "changed"; 0 then 3: "skipped"; there are such frames, of each kind that the first edition has
   pub example9-changed : (s : Follower) (f g : List ℕ) (k : Kind) → Informs First f k 3 → Informs First g k 0
@@ -55,4 +58,4 @@ pub record Examples : Type 0 where
       → stepOf First (stepOf First s f .next) g .event ≡ Skipped
   pub example9-some : (u : ℕ) → u < 4 → Some First Real u × Some First Test u
   -- 10. 26 zero bytes: refusal 3
-  pub example10 : readOf First (replicate 26 0) ≡ Refused 3
+  pub example10 : (t : Tuner) → readOf First t (replicate 26 0) ≡ Refused 3

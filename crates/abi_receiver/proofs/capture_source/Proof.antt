@@ -4,7 +4,7 @@ use denote.Ref.{now}
 use borrow.Author.Needs.{needs}
 use Rattle.frame.specs.declared.Edition.{Edition}
 use Rattle.capture.specs.Capture.{sourceOf}
-use Rattle.capture.specs.declared.Tuner.the-variants.{Neither, Main, Spare}
+use Rattle.frame.specs.declared.Tuner.the-variants.{None, Main, Spare}
 use Rattle.abi_receiver.proofs.Numbers.{tuner-told}
 use Rattle.abi_receiver.proofs.capture_source.Statement.{statement}
 use Rattle.abi_receiver.proofs.capture_source.Tie as tie
@@ -28,7 +28,7 @@ returns : tie.Need-returns
 returns c =
     let source = c .before .before in
     let s = source .before .before .before .before .args in
-    tuner-told Neither
+    tuner-told None
     (source .source .ensures ∙ ap (λ (e : Edition). sourceOf e (now (s .main)) (now (s .spare)) (s .n)) (source .before .edition-of .ensures)) (c .enum-told .given .1)
 
 returns-2 : tie.Need-returns-2

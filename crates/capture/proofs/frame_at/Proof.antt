@@ -1,7 +1,7 @@
 -- `capture::frame_at` meets its contract. Assumes nothing.
 use mathlib.Core.Path.{sym, _∙_}
 use borrow.Author.Needs.{needs}
-use Rattle.capture.proofs.Choice.{main-within, spare-within, neither-bytes, neither-position}
+use Rattle.capture.proofs.Choice.{main-within, spare-within, none-bytes, none-position}
 use Rattle.capture.proofs.frame_at.Statement.{statement}
 use Rattle.capture.proofs.frame_at.Tie as tie
 
@@ -45,7 +45,7 @@ part-result-end c = search needs
 returns-3 : tie.Need-returns-3
 returns-3 c =
     let source = sym (c .before .before .before .source .ensures) ∙ c .before .enum-told3 .given .1 in
-    (neither-bytes _ _ _ source, neither-position _ _ _ source)
+    (none-bytes _ _ _ source, none-position _ _ _ source)
 
 pub frame-at-spec : {M : Type 1} → statement M
 frame-at-spec =

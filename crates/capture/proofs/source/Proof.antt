@@ -1,7 +1,7 @@
 -- `capture::source` meets its contract. Assumes nothing.
 use mathlib.Core.Path.{sym, _∙_}
 use borrow.Author.Needs.{needs}
-use Rattle.capture.proofs.Choice.{source-main, source-spare, source-neither}
+use Rattle.capture.proofs.Choice.{source-main, source-spare, source-none}
 use Rattle.capture.proofs.source.Statement.{statement}
 use Rattle.capture.proofs.source.Tie as tie
 
@@ -26,7 +26,7 @@ returns-3 : tie.Need-returns-3
 returns-3 c =
     let m = c .before .before .before .number .ensures in
     let s = c .before .number2 .ensures in
-    sym (source-neither _ _ _ _ (λ z. c .before .before .if1 .left (m ∙ z)) (λ z. c .if2 .left (s ∙ z)))
+    sym (source-none _ _ _ _ (λ z. c .before .before .if1 .left (m ∙ z)) (λ z. c .if2 .left (s ∙ z)))
 
 pub source-spec : {M : Type 1} → statement M
 source-spec = tie.close (tie.spec number-requires returns number-requires-2 returns-2 returns-3)

@@ -1,0 +1,2 @@
+pub mod CaptureReads
+pub mod Promises

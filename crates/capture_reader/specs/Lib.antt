@@ -1,0 +1,2 @@
+pub mod CaptureRead
+pub mod Promises

@@ -1,0 +1,2 @@
+pub mod DeskRecords
+pub mod Promises

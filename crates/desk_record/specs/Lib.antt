@@ -1,0 +1,2 @@
+pub mod DeskRecord
+pub mod Promises
