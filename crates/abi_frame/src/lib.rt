@@ -1,31 +1,37 @@
-// Frames over plain numbers and slices, as a C program can call them: the edition is named by its number, and a record is its fields in their order.
+// Frames over plain numbers and slices, as a C program can call them: the edition and the tuner are named by their
+// numbers, and a record is its values in their order.
 ghost use mathlib.Core.Path.{_≡_};
+ghost use Prim.Native.Nat.{_*_};
 ghost use Rattle.abi_edition.specs.Edition.{editionOf};
-ghost use Rattle.abi_frame.specs.Frame.{damageStatus, frameReadStatus, frameReadRecord, frameWriteStatus, frameWriteBytes, warnedStatus};
-use frame::Damage;
-use frame::FIELDS;
+ghost use Rattle.abi_tuner.specs.Tuner.{tunerOf};
+ghost use Rattle.abi_frame.specs.Frame.{frameReadStatus, frameReadRecord, frameWriteStatus, frameWriteBytes, warnedStatus};
+use abi_record::VALUES;
 use frame::Reading;
 
-// The status of an accepted frame: its repaired places, and above them the bits of B1 to B16 that differed from the pattern.
-fn damage_status(damage: Damage) -> u32
-    ensures { λ r. ⌜ r ≡ damageStatus damage ⌝ }
+// The status of an accepted frame: the bits of B1 to B16 that differed from the pattern. The byte below them tells nothing, since the repaired places
+// stand in the record.
+fn accepted_status(differing: u8) -> u32
+    ensures { λ r. ⌜ r ≡ 65536 * differing ⌝ }
 {
-    abi::status(0, damage.repaired) + 65536 * (damage.differing as u32)
+    65536 * (differing as u32)
 }
 
-// Reads a frame; the record's fields where it is accepted.
-pub fn frame_read(edition: u32, frame: &[u8], values: &mut [u64]) -> u32
-    ensures status { λ r. ⌜ r ≡ frameReadStatus (editionOf edition) (now (frame .entry)) (now (values .entry)) ⌝ }
-    ensures values { λ _. ⌜ now (values .exit) ≡ frameReadRecord (editionOf edition) (now (frame .entry)) (now (values .entry)) ⌝ }
+// Reads a frame, told the tuner; the record's values where it is accepted.
+pub fn frame_read(edition: u32, tuner: u32, frame: &[u8], values: &mut [u64]) -> u32
+    ensures status { λ r. ⌜ r ≡ frameReadStatus (editionOf edition) (tunerOf tuner) (now (frame .entry)) (now (values .entry)) ⌝ }
+    ensures values { λ _. ⌜ now (values .exit) ≡ frameReadRecord (editionOf edition) (tunerOf tuner) (now (frame .entry)) (now (values .entry)) ⌝ }
 {
-    if values.len() != FIELDS {
+    if values.len() != VALUES {
         return abi::status(1, 0);
     }
-    match frame_reader::read(abi_edition::edition_of(edition), frame) {
-        Reading::Accepted(message, damage) => {
-            let fields = frame_fields::fields_of(message);
-            abi::copy(&fields, values);
-            damage_status(damage)
+    match frame_reader::read(
+        abi_edition::edition_of(edition),
+        abi_tuner::tuner_of(tuner as u64),
+        frame,
+    ) {
+        Reading::Accepted(message, differing) => {
+            abi_record::put_record(message, values);
+            accepted_status(differing)
         }
         Reading::Refused(number) => abi::status(number, 0),
     }
@@ -36,12 +42,12 @@ pub fn frame_write(edition: u32, values: &[u64], frame: &mut [u8]) -> u32
     ensures status { λ r. ⌜ r ≡ frameWriteStatus (editionOf edition) (now (values .entry)) (now (frame .entry)) ⌝ }
     ensures frame { λ _. ⌜ now (frame .exit) ≡ frameWriteBytes (editionOf edition) (now (values .entry)) (now (frame .entry)) ⌝ }
 {
-    if values.len() != FIELDS {
+    if values.len() != VALUES {
         return abi::status(1, 0);
     }
     let written = frame_writer::write(
         abi_edition::edition_of(edition),
-        frame_fields::record_of(values),
+        abi_record::record_at(values),
         frame,
     );
     abi::status(written, 0)
@@ -51,10 +57,10 @@ pub fn frame_write(edition: u32, values: &[u64], frame: &mut [u8]) -> u32
 pub fn warned(values: &[u64], area: u64) -> u32
     ensures { λ r. ⌜ r ≡ warnedStatus (now (values .entry)) area ⌝ }
 {
-    if values.len() != FIELDS {
+    if values.len() != VALUES {
         return abi::status(1, 0);
     }
-    if frame_kinds::warned(frame_fields::record_of(values), area) {
+    if frame_kinds::warned(abi_record::record_at(values), area) {
         return abi::status(0, 1);
     }
     abi::status(0, 0)

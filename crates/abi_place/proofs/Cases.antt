@@ -17,7 +17,7 @@ use Rattle.place.proofs.Promises.{degrees-laws}
 use Rattle.report.specs.Report.{reportOf, reportNumber}
 use Rattle.report.specs.declared.Reported.{Reported}
 use Rattle.abi.specs.Status.{statusOf}
-use Rattle.frame.specs.Fields.{fieldCount, recordFrom}
+use Rattle.abi_record.specs.Values.{valueCount, recordAt}
 use Rattle.abi_place.specs.Place.{reportCase, doublesOf, reportStatus, reportPlace, convertedFields, deskStatus, deskFields}
 
 -- ---- all elements of a buffer stored
@@ -41,22 +41,22 @@ five-stored (x ∷ y ∷ z ∷ w ∷ v ∷ u ∷ l) a b c d e h = absurd (omega 
 -- ---- a report: the status n and the buffer t
 
 module _ (ed : Edition) (v : List ℕ) (s : List Float) {n : ℕ} {t : List Float} where
-  pub record-wrong : length v ≢ fieldCount → n ≡ statusOf 1 0 → t ≡ s → (n ≡ reportStatus ed v s) × (t ≡ reportPlace ed v s)
+  pub record-wrong : length v ≢ valueCount → n ≡ statusOf 1 0 → t ≡ s → (n ≡ reportStatus ed v s) × (t ≡ reportPlace ed v s)
   unfolding reportStatus reportPlace
-  record-wrong h e p = let z = ne-eqb (length v) fieldCount h in (rw z e, rw z p)
+  record-wrong h e p = let z = ne-eqb (length v) valueCount h in (rw z e, rw z p)
 
-  pub place-wrong : length v ≡ fieldCount → length s ≢ 3 → n ≡ statusOf 1 0 → t ≡ s → (n ≡ reportStatus ed v s) × (t ≡ reportPlace ed v s)
+  pub place-wrong : length v ≡ valueCount → length s ≢ 3 → n ≡ statusOf 1 0 → t ≡ s → (n ≡ reportStatus ed v s) × (t ≡ reportPlace ed v s)
   unfolding reportStatus reportPlace
-  place-wrong l h e p = let z = eq-eqb (length v) fieldCount l in let y = ne-eqb (length s) 3 h in (rw (z, y) e, rw (z, y) p)
+  place-wrong l h e p = let z = eq-eqb (length v) valueCount l in let y = ne-eqb (length s) 3 h in (rw (z, y) e, rw (z, y) p)
 
   -- the report a of the record r
-  pub reported : (r : Record) (a b : Reported) → length v ≡ fieldCount → length s ≡ 3 → r ≡ recordFrom v → a ≡ reportOf ed r → a ≡ b → n ≡ statusOf (reportNumber b) (reportCase b)
+  pub reported : (r : Record) (a b : Reported) → length v ≡ valueCount → length s ≡ 3 → r ≡ recordAt v → a ≡ reportOf ed r → a ≡ b → n ≡ statusOf (reportNumber b) (reportCase b)
       → t ≡ doublesOf b s → (n ≡ reportStatus ed v s) × (t ≡ reportPlace ed v s)
   unfolding reportStatus reportPlace
   reported r a b l m e f g p q =
-      let z = eq-eqb (length v) fieldCount l in
+      let z = eq-eqb (length v) valueCount l in
       let y = eq-eqb (length s) 3 m in
-      let x : b ≡ reportOf ed (recordFrom v) = sym g ∙ f ∙ ap (reportOf ed) e in
+      let x : b ≡ reportOf ed (recordAt v) = sym g ∙ f ∙ ap (reportOf ed) e in
       (rw (z, y) (p ∙ ap (λ (k : Reported). statusOf (reportNumber k) (reportCase k)) x), rw (z, y) (q ∙ ap (λ (k : Reported). doublesOf k s) x))
 
 -- ---- the desk

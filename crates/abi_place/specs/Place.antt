@@ -5,7 +5,7 @@ use Prim.Native.Nat.{ℕ}
 use lib.Dec.{eqb}
 use lib.ListN.{length}
 use lib.Ieee.{Float}
-use Rattle.frame.specs.Fields.{fieldCount, recordFrom}
+use Rattle.abi_record.specs.Values.{valueCount, recordAt}
 use Rattle.frame.specs.declared.Edition.{Edition}
 use Rattle.place.specs.Desk.{conversionOf, conversionNumber, conversionFields}
 use Rattle.place.specs.declared.Conversion.{Conversion}
@@ -23,18 +23,18 @@ reportCase Nothing = 0
 reportCase Safety = 4
 reportCase (Refused n) = 0
 
--- a record of another length than it has fields, or a place of another length than 3, is 1
+-- a record of another length than it has values, or a place of another length than 3, is 1
 unfoldable pub reportStatus : Edition → (v : List ℕ) (s : List Float) → ℕ
 reportStatus ed v s =
-    cond (eqb (length v) fieldCount)
-    (cond (eqb (length s) 3) (statusOf (reportNumber (reportOf ed (recordFrom v))) (reportCase (reportOf ed (recordFrom v)))) (statusOf 1 0)) (statusOf 1 0)
+    cond (eqb (length v) valueCount)
+    (cond (eqb (length s) 3) (statusOf (reportNumber (reportOf ed (recordAt v))) (reportCase (reportOf ed (recordAt v)))) (statusOf 1 0)) (statusOf 1 0)
 
 -- latitude, longitude and depth, of a place alone
 abbrev pub doublesOf : Reported → List Float → List Float
 doublesOf a s = cond (eqb (reportCase a) 1) (reportDoubles a) s
 
 unfoldable pub reportPlace : Edition → (v : List ℕ) → List Float → List Float
-reportPlace ed v s = cond (eqb (length v) fieldCount) (cond (eqb (length s) 3) (doublesOf (reportOf ed (recordFrom v)) s) s) s
+reportPlace ed v s = cond (eqb (length v) valueCount) (cond (eqb (length s) 3) (doublesOf (reportOf ed (recordAt v)) s) s) s
 
 -- the fields of a place that the desk converts
 abbrev pub convertedFields : Conversion → List ℕ → List ℕ

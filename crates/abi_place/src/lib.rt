@@ -2,7 +2,7 @@
 ghost use mathlib.Core.Path.{_≡_};
 ghost use Rattle.abi_edition.specs.Edition.{editionOf};
 ghost use Rattle.abi_place.specs.Place.{reportStatus, reportPlace, deskStatus, deskFields};
-use frame::FIELDS;
+use abi_record::VALUES;
 use place::Conversion;
 use place::Place;
 use report::Reported;
@@ -12,7 +12,7 @@ pub fn report(edition: u32, values: &[u64], doubles: &mut [f64]) -> u32
     ensures status { λ r. ⌜ r ≡ reportStatus (editionOf edition) (now (values .entry)) (now (doubles .entry)) ⌝ }
     ensures doubles { λ _. ⌜ now (doubles .exit) ≡ reportPlace (editionOf edition) (now (values .entry)) (now (doubles .entry)) ⌝ }
 {
-    if values.len() != FIELDS {
+    if values.len() != VALUES {
         return abi::status(1, 0);
     }
     if doubles.len() != 3 {
@@ -20,7 +20,7 @@ pub fn report(edition: u32, values: &[u64], doubles: &mut [f64]) -> u32
     }
     match report::report(
         abi_edition::edition_of(edition),
-        frame_fields::record_of(values),
+        abi_record::record_at(values),
     ) {
         Reported::Place {
             latitude,

@@ -1,4 +1,4 @@
--- The numbers of states, events and tuners. Assumes nothing.
+-- The numbers of states and events. Assumes nothing.
 use mathlib.Core.Path.{_≡_, refl, _∙_, sym, ap}
 use mathlib.Core.List.{[], _∷_}
 use Prim.Native.Nat.{ℕ, _+_, _*_, _/_, _%_, _≤_, _<_}
@@ -11,9 +11,8 @@ use Rattle.follower_events.specs.declared.Kind.the-variants.{Real, Test, Safety
 use Rattle.follower_events.specs.Events.{kindNumber, kindAt}
 use Rattle.follower.specs.declared.Follower.{Follower}
 use Rattle.follower.specs.declared.Follower.the-variants.{Quiet, Active}
-use Rattle.frame.specs.declared.Tuner.{Tuner}
 use Rattle.abi.specs.Status.{statusOf}
-use Rattle.abi_receiver.specs.Receiver.{stateNumber, stateOf, eventCase, tunerCase}
+use Rattle.abi_receiver.specs.Receiver.{stateNumber, stateOf, eventCase}
 
 -- the numbers that the header file gives, each with the update number 0
 as-declared : stateNumber (Active Real 0) ∷ stateNumber (Active Test 0) ∷ stateNumber (Active Safety 0) ∷ stateNumber (Active SafetyTest 0) ∷ [] ≡ 4 ∷ 8 ∷ 12 ∷ 16 ∷ []
@@ -29,15 +28,12 @@ pub state-small : (s : Follower) → stateNumber s ≤ 19
 state-small Quiet = omega arith
 state-small (Active k u) = omega (arith, kind-small k)
 
--- what a `match` tells: the number of a state, an event, a tuner is that of the variant it was found to be
+-- what a `match` tells: the number of a state, an event is that of the variant it was found to be
 pub active-told : {s : Follower} {m : ℕ} (k : Kind) (u : ℕ) → s ≡ Active k u → m ≡ kindNumber k → 4 * m + u % 4 ≡ stateNumber s
 active-told k u e q = ap (λ (n : ℕ). 4 * n + u % 4) q ∙ ap stateNumber (sym e)
 
 pub event-told : {e : Event} {r : ℕ} (d : Event) → e ≡ d → r ≡ statusOf (eventNumber d) (eventCase d) → r ≡ statusOf (eventNumber e) (eventCase e)
 event-told d q told = told ∙ ap (λ (x : Event). statusOf (eventNumber x) (eventCase x)) (sym q)
-
-pub tuner-told : {t u : Tuner} (d : Tuner) → t ≡ u → t ≡ d → tunerCase d ≡ tunerCase u
-tuner-told d e q = ap tunerCase (sym q ∙ e)
 
 -- the state of a number, by cases
 pub below-four : (n : ℕ) → n < 4 → Quiet ≡ stateOf n

@@ -12,9 +12,8 @@ use Rattle.follower.specs.declared.Follower.{Follower}
 use Rattle.follower.specs.declared.Follower.the-variants.{Quiet, Active}
 use Rattle.follower.specs.declared.Step.{Step}
 use Rattle.capture.specs.Capture.{sourceOf, numberAt}
-use Rattle.frame.specs.declared.Tuner.{Tuner}
-use Rattle.frame.specs.declared.Tuner.the-variants.{None, Main, Spare}
 use Rattle.abi.specs.Status.{statusOf}
+use Rattle.abi_tuner.specs.Tuner.{tunerNumber}
 
 -- a state's number: 0 quiet, 4+u real, 8+u test, 12+u area safety information, 16+u its test, for the two low bits u of the update number
 abbrev pub stateNumber : Follower → ℕ
@@ -41,14 +40,9 @@ stepStatus t = statusOf (eventNumber (t .event)) (eventCase (t .event)) + 65536 
 unfoldable pub followStatus : Edition → ℕ → List ℕ → ℕ
 followStatus ed n f = stepStatus (stepOf ed (stateOf n) f)
 
--- 0 neither, 1 main, 2 spare
-abbrev pub tunerCase : Tuner → ℕ
-tunerCase None = 0
-tunerCase Main = 1
-tunerCase Spare = 2
-
+-- the number of the tuner, 0 where neither has the frame
 abbrev pub captureSource : Edition → (main spare : List ℕ) → ℕ → ℕ
-captureSource ed main spare n = tunerCase (sourceOf ed main spare n)
+captureSource ed main spare n = tunerNumber (sourceOf ed main spare n)
 
 -- main's number, and 256 times spare's
 abbrev pub captureNumbers : Edition → (main spare : List ℕ) → ℕ → ℕ

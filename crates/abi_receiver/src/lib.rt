@@ -5,7 +5,6 @@ ghost use Rattle.follower.specs.Follow.{eventNumber};
 ghost use Rattle.abi.specs.Status.{statusOf};
 ghost use Rattle.abi_edition.specs.Edition.{editionOf};
 ghost use Rattle.abi_receiver.specs.Receiver.{stateNumber, stateOf, eventCase, stepStatus, followStatus, captureSource, captureNumbers};
-use capture::Tuner;
 use follower::Event;
 use follower::Follower;
 use follower::Step;
@@ -68,11 +67,12 @@ pub fn follow(edition: u32, state: u32, frame: &[u8]) -> u32
 pub fn capture_source(edition: u32, main: &[u8], spare: &[u8], n: u64) -> u32
     ensures { λ r. ⌜ r ≡ captureSource (editionOf edition) (now (main .entry)) (now (spare .entry)) n ⌝ }
 {
-    match capture::source(abi_edition::edition_of(edition), main, spare, n as usize) {
-        Tuner::Neither => 0,
-        Tuner::Main => 1,
-        Tuner::Spare => 2,
-    }
+    abi_tuner::tuner_number(capture::source(
+        abi_edition::edition_of(edition),
+        main,
+        spare,
+        n as usize,
+    ))
 }
 
 // Both tuners' numbers for frame n.

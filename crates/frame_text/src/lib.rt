@@ -6,6 +6,7 @@ use frame::Edition;
 use frame::FIELDS;
 use frame::Reading;
 use frame::Record;
+use frame::Tuner;
 use libc::STDIN_FILENO;
 use libc::STDOUT_FILENO;
 
@@ -57,12 +58,12 @@ fn refused(n: u8) {
 
 // What the line of a frame says of its reading.
 fn reading(edition: Edition, frame: &[u8]) {
-    match frame_reader::read(edition, frame) {
-        Reading::Accepted(r, d) => {
+    match frame_reader::read(edition, Tuner::None, frame) {
+        Reading::Accepted(r, differing) => {
             text(b" accepted ");
-            number(d.repaired as u64);
+            number(r.origin.repaired as u64);
             text(b" ");
-            number(d.differing as u64);
+            number(differing as u64);
             record(r);
         }
         Reading::Refused(n) => refused(n),

@@ -7,6 +7,7 @@
 // stand in the specs/ of the crates that are called.
 ghost use mathlib.Core.Path.{_≡_};
 ghost use Rattle.abi_edition.specs.Edition.{editionOf};
+ghost use Rattle.abi_tuner.specs.Tuner.{tunerOf};
 ghost use Rattle.abi_repair.specs.Repair.{repairStatus, repairWord};
 ghost use Rattle.abi_frame.specs.Frame.{frameReadStatus, frameReadRecord, frameWriteStatus, frameWriteBytes, warnedStatus};
 ghost use Rattle.abi_place.specs.Place.{reportStatus, reportPlace, deskStatus, deskFields};
@@ -36,11 +37,11 @@ pub extern "C" fn gvz_repair_register(frame: &[u8], word: &mut [u8]) -> u32
 }
 
 #[no_mangle]
-pub extern "C" fn gvz_frame_read(edition: u32, frame: &[u8], values: &mut [u64]) -> u32
-    ensures { λ r. ⌜ r ≡ frameReadStatus (editionOf edition) (now (frame .entry)) (now (values .entry)) ⌝ }
-    ensures { λ _. ⌜ now (values .exit) ≡ frameReadRecord (editionOf edition) (now (frame .entry)) (now (values .entry)) ⌝ }
+pub extern "C" fn gvz_frame_read(edition: u32, tuner: u32, frame: &[u8], values: &mut [u64]) -> u32
+    ensures { λ r. ⌜ r ≡ frameReadStatus (editionOf edition) (tunerOf tuner) (now (frame .entry)) (now (values .entry)) ⌝ }
+    ensures { λ _. ⌜ now (values .exit) ≡ frameReadRecord (editionOf edition) (tunerOf tuner) (now (frame .entry)) (now (values .entry)) ⌝ }
 {
-    abi_frame::frame_read(edition, frame, values)
+    abi_frame::frame_read(edition, tuner, frame, values)
 }
 
 #[no_mangle]

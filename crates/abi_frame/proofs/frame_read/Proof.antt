@@ -1,8 +1,9 @@
 -- `abi_frame::frame_read` meets its contract. Assumes nothing.
-use mathlib.Core.Path.{refl, sym, ap, _∙_}
+use mathlib.Core.Path.{refl, sym, ap₂, _∙_}
 use denote.Ref.{now}
 use borrow.Author.Needs.{needs}
 use Rattle.frame.specs.declared.Edition.{Edition}
+use Rattle.frame.specs.declared.Tuner.{Tuner}
 use Rattle.frame.specs.Read.{readOf}
 use Rattle.abi_frame.proofs.Cases.{read-wrong, read-accepted, read-refused}
 use Rattle.abi_frame.proofs.frame_read.Statement.{statement}
@@ -12,10 +13,13 @@ status-requires : tie.Need-status-requires
 status-requires c κs = search needs
 
 returns : tie.Need-returns
-returns c = read-wrong _ _ _ (c .before .if1 .taken) (c .status .ensures) refl
+returns c = read-wrong _ _ _ _ (c .before .if1 .taken) (c .status .ensures) refl
 
 edition-of-requires : tie.Need-edition-of-requires
 edition-of-requires c κs = search needs
+
+tuner-of-requires : tie.Need-tuner-of-requires
+tuner-of-requires c κs = search needs
 
 read-requires : tie.Need-read-requires
 read-requires c κs = search needs
@@ -23,17 +27,11 @@ read-requires c κs = search needs
 enum-known-message : tie.Need-enum-known-message
 enum-known-message c = search needs
 
-fields-of-requires : tie.Need-fields-of-requires
-fields-of-requires c κs = search needs
+put-record-requires : tie.Need-put-record-requires
+put-record-requires c κs = search needs
 
-slice-aggregate-copy : tie.Need-slice-aggregate-copy
-slice-aggregate-copy c = search needs
-
-copy-requires : tie.Need-copy-requires
-copy-requires c κs = search needs
-
-damage-status-requires : tie.Need-damage-status-requires
-damage-status-requires c κs = search needs
+accepted-status-requires : tie.Need-accepted-status-requires
+accepted-status-requires c κs = search needs
 
 enum-known-number : tie.Need-enum-known-number
 enum-known-number c = search needs
@@ -46,19 +44,24 @@ same-length c = search needs
 
 returns-2 : tie.Need-returns-2
 returns-2 c =
-    let read = c .before .before .before .before .before .before .before .before .before .before in
-    let named = read .before .edition-of .ensures in
-    let f = now (read .before .before .before .before .before .args .frame) in
-    read-accepted _ _ _ (read .before .before .if1 .left)
-    (sym (read .read .ensures ∙ ap (λ (e : Edition). readOf e f) named) ∙ c .before .before .before .before .before .before .before .before .message .given .1)
-    (c .damage-status .ensures) (c .before .before .before .copy .ensures ∙ c .before .before .before .before .before .before .fields-of .ensures)
+    let put = c .before .before .before in
+    let message = put .before .before .before in
+    let read = message .before .before in
+    let tuner = read .before in
+    let edition = tuner .before in
+    let f = now (edition .before .before .before .before .args .frame) in
+    read-accepted _ _ _ _ (edition .before .if1 .left)
+    (sym (read .read .ensures ∙ ap₂ (λ (e : Edition) (t : Tuner). readOf e t f) (edition .edition-of .ensures) (tuner .tuner-of .ensures)) ∙ message .message .given .1)
+    (c .accepted-status .ensures) (put .put-record .ensures)
 
 returns-3 : tie.Need-returns-3
 returns-3 c =
     let read = c .before .before .before .before in
-    let named = read .before .edition-of .ensures in
-    let f = now (read .before .before .before .before .before .args .frame) in
-    read-refused _ _ _ (read .before .before .if1 .left) (sym (read .read .ensures ∙ ap (λ (e : Edition). readOf e f) named) ∙ c .before .before .number .given .1)
+    let tuner = read .before in
+    let edition = tuner .before in
+    let f = now (edition .before .before .before .before .args .frame) in
+    read-refused _ _ _ _ (edition .before .if1 .left)
+    (sym (read .read .ensures ∙ ap₂ (λ (e : Edition) (t : Tuner). readOf e t f) (edition .edition-of .ensures) (tuner .tuner-of .ensures)) ∙ c .before .before .number .given .1)
     (c .status2 .ensures) refl
 
 pub frame-read-spec : {M : Type 1} → statement M
@@ -68,12 +71,11 @@ frame-read-spec =
     status-requires
     returns
     edition-of-requires
+    tuner-of-requires
     read-requires
     enum-known-message
-    fields-of-requires
-    slice-aggregate-copy
-    copy-requires
-    damage-status-requires
+    put-record-requires
+    accepted-status-requires
     enum-known-number
     status-requires-2
     same-length

@@ -3,7 +3,7 @@ use mathlib.Core.Path.{refl, ap, _∙_}
 use lib.ListN.{length}
 use denote.Ref.{now}
 use borrow.Author.Needs.{needs}
-use Rattle.frame.specs.Fields.{fieldCount, recordFrom}
+use Rattle.abi_record.specs.Values.{valueCount, recordAt}
 use Rattle.frame.specs.Write.{writeNumber, writeOf}
 use Rattle.frame.specs.declared.Edition.{Edition}
 use Rattle.abi_edition.specs.Edition.{editionOf}
@@ -12,7 +12,7 @@ use Rattle.abi_frame.specs.Frame.{frameWriteStatus, frameWriteBytes}
 use Rattle.abi_frame.proofs.frame_write.Statement.{statement}
 use Rattle.abi_frame.proofs.frame_write.Tie as tie
 
-written : (ed : Edition) → Written fieldCount recordFrom (writeNumber ed) (writeOf ed) (frameWriteStatus ed) (frameWriteBytes ed)
+written : (ed : Edition) → Written valueCount recordAt (writeNumber ed) (writeOf ed) (frameWriteStatus ed) (frameWriteBytes ed)
 unfolding frameWriteStatus frameWriteBytes
 written ed = record { is-status = λ v s. refl; is-buffer = λ v s. refl }
 
@@ -25,9 +25,9 @@ returns-2 c =
     let from = write .before .before in
     let named = from .before .edition-of .ensures in
     let s = from .before .before .before .before .before .args in
-    let r = from .record-of .result in
+    let r = from .record-at .result in
     let b = now (s .frame) in
-    write-answered (written (editionOf (s .edition))) _ _ (from .before .before .if1 .left) (from .record-of .ensures)
+    write-answered (written (editionOf (s .edition))) _ _ (from .before .before .if1 .left) (from .record-at .ensures)
     (write .write .ensures .0 ∙ ap (λ (e : Edition). writeNumber e r (length b)) named) (c .status2 .ensures)
     (write .write .ensures .1 ∙ ap (λ (e : Edition). writeOf e r b) named)
 

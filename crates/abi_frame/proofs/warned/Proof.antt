@@ -11,8 +11,8 @@ status-requires c κs = search needs
 returns : tie.Need-returns
 returns c = warned-wrong _ _ (c .before .if1 .taken) (c .status .ensures)
 
-record-of-requires : tie.Need-record-of-requires
-record-of-requires c κs = search needs
+record-at-requires : tie.Need-record-at-requires
+record-at-requires c κs = search needs
 
 warned-requires : tie.Need-warned-requires
 warned-requires c κs = search needs
@@ -24,7 +24,7 @@ returns-2 : tie.Need-returns-2
 unfolding digit
 returns-2 c =
     let w = c .before .before in
-    warned-answered _ _ (w .before .before .if1 .left) (w .before .record-of .ensures) (w .warned .ensures) (c .before .if2 .taken) (c .status2 .ensures)
+    warned-answered _ _ (w .before .before .if1 .left) (w .before .record-at .ensures) (w .warned .ensures) (c .before .if2 .taken) (c .status2 .ensures)
 
 status-requires-3 : tie.Need-status-requires-3
 status-requires-3 c κs = search needs
@@ -33,7 +33,7 @@ returns-3 : tie.Need-returns-3
 unfolding digit
 returns-3 c =
     let w = c .before .before in
-    warned-answered _ _ (w .before .before .if1 .left) (w .before .record-of .ensures) (w .warned .ensures) (c .before .if2 .left) (c .status3 .ensures)
+    warned-answered _ _ (w .before .before .if1 .left) (w .before .record-at .ensures) (w .warned .ensures) (c .before .if2 .left) (c .status3 .ensures)
 
 pub warned-spec : {M : Type 1} → statement M
 warned-spec =
@@ -41,7 +41,7 @@ warned-spec =
     (tie.spec
     status-requires
     returns
-    record-of-requires
+    record-at-requires
     warned-requires
     status-requires-2
     returns-2

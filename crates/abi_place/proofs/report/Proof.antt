@@ -25,8 +25,8 @@ returns-2 c = place-wrong _ _ _ (c .before .before .if1 .left) (c .before .if2 .
 edition-of-requires : tie.Need-edition-of-requires
 edition-of-requires c κs = search needs
 
-record-of-requires : tie.Need-record-of-requires
-record-of-requires c κs = search needs
+record-at-requires : tie.Need-record-at-requires
+record-at-requires c κs = search needs
 
 report-requires : tie.Need-report-requires
 report-requires c κs = search needs
@@ -84,48 +84,48 @@ returns-3 c =
     let at = c .before .before .before .before in
     let tested = at .before .before .before in
     let s = tested .before .before .before .before .args in
-    reported _ _ _ _ _ _ (tested .before .if1 .left) (tested .if2 .left) (at .before .record-of .ensures)
-    (at .report .ensures ∙ ap (λ (e : Edition). reportOf e (at .before .record-of .result)) (at .before .before .edition-of .ensures))
+    reported _ _ _ _ _ _ (tested .before .if1 .left) (tested .if2 .left) (at .before .record-at .ensures)
+    (at .report .ensures ∙ ap (λ (e : Edition). reportOf e (at .before .record-at .result)) (at .before .before .edition-of .ensures))
     (c .before .before .latitude .given .1) (c .status3 .ensures) (three-stored (now (s .doubles)) _ _ _ (tested .if2 .left))
 
 returns-4 : tie.Need-returns-4
 returns-4 c =
     let at = c .before .before .before in
     let tested = at .before .before .before in
-    reported _ _ _ _ _ _ (tested .before .if1 .left) (tested .if2 .left) (at .before .record-of .ensures)
-    (at .report .ensures ∙ ap (λ (e : Edition). reportOf e (at .before .record-of .result)) (at .before .before .edition-of .ensures))
+    reported _ _ _ _ _ _ (tested .before .if1 .left) (tested .if2 .left) (at .before .record-at .ensures)
+    (at .report .ensures ∙ ap (λ (e : Edition). reportOf e (at .before .record-at .result)) (at .before .before .edition-of .ensures))
     (c .before .enum-told .given .1) (c .status4 .ensures) refl
 
 returns-5 : tie.Need-returns-5
 returns-5 c =
     let at = c .before .before .before in
     let tested = at .before .before .before in
-    reported _ _ _ _ _ _ (tested .before .if1 .left) (tested .if2 .left) (at .before .record-of .ensures)
-    (at .report .ensures ∙ ap (λ (e : Edition). reportOf e (at .before .record-of .result)) (at .before .before .edition-of .ensures))
+    reported _ _ _ _ _ _ (tested .before .if1 .left) (tested .if2 .left) (at .before .record-at .ensures)
+    (at .report .ensures ∙ ap (λ (e : Edition). reportOf e (at .before .record-at .result)) (at .before .before .edition-of .ensures))
     (c .before .enum-told2 .given .1) (c .status5 .ensures) refl
 
 returns-6 : tie.Need-returns-6
 returns-6 c =
     let at = c .before .before .before in
     let tested = at .before .before .before in
-    reported _ _ _ _ _ _ (tested .before .if1 .left) (tested .if2 .left) (at .before .record-of .ensures)
-    (at .report .ensures ∙ ap (λ (e : Edition). reportOf e (at .before .record-of .result)) (at .before .before .edition-of .ensures))
+    reported _ _ _ _ _ _ (tested .before .if1 .left) (tested .if2 .left) (at .before .record-at .ensures)
+    (at .report .ensures ∙ ap (λ (e : Edition). reportOf e (at .before .record-at .result)) (at .before .before .edition-of .ensures))
     (c .before .enum-told3 .given .1) (c .status6 .ensures) refl
 
 returns-7 : tie.Need-returns-7
 returns-7 c =
     let at = c .before .before .before in
     let tested = at .before .before .before in
-    reported _ _ _ _ _ _ (tested .before .if1 .left) (tested .if2 .left) (at .before .record-of .ensures)
-    (at .report .ensures ∙ ap (λ (e : Edition). reportOf e (at .before .record-of .result)) (at .before .before .edition-of .ensures))
+    reported _ _ _ _ _ _ (tested .before .if1 .left) (tested .if2 .left) (at .before .record-at .ensures)
+    (at .report .ensures ∙ ap (λ (e : Edition). reportOf e (at .before .record-at .result)) (at .before .before .edition-of .ensures))
     (c .before .enum-told4 .given .1) (c .status7 .ensures) refl
 
 returns-8 : tie.Need-returns-8
 returns-8 c =
     let at = c .before .before .before .before in
     let tested = at .before .before .before in
-    reported _ _ _ _ _ _ (tested .before .if1 .left) (tested .if2 .left) (at .before .record-of .ensures)
-    (at .report .ensures ∙ ap (λ (e : Edition). reportOf e (at .before .record-of .result)) (at .before .before .edition-of .ensures))
+    reported _ _ _ _ _ _ (tested .before .if1 .left) (tested .if2 .left) (at .before .record-at .ensures)
+    (at .report .ensures ∙ ap (λ (e : Edition). reportOf e (at .before .record-at .result)) (at .before .before .edition-of .ensures))
     (c .before .before .number .given .1) (c .status8 .ensures) refl
 
 pub report-spec : {M : Type 1} → statement M
@@ -137,7 +137,7 @@ report-spec =
     status-requires-2
     returns-2
     edition-of-requires
-    record-of-requires
+    record-at-requires
     report-requires
     enum-known-latitude
     slice-write-doubles
