@@ -1,5 +1,5 @@
 //! Following the update number (document 01, "Following the update number"; document 02, "The area safety edition").
-use crate::frame::{self, Edition, IDENTIFICATION, UPDATE};
+use crate::frame::{self, Edition, Tuner, IDENTIFICATION, UPDATE};
 
 /// "real (0, 1)", "test (2, 3)". "The follower gets two more kinds": area safety information (5) and its test (6).
 #[derive(Clone, Copy, Debug, PartialEq, Eq)]
@@ -30,9 +30,9 @@ pub enum Event {
     Refused(u8),
 }
 
-/// The new state and the event, of a frame that is judged by the edition named.
+/// The new state and the event, of a frame that is judged by the edition named. No record is handed out, and so no tuner is told.
 pub fn follow(edition: Edition, old: State, frame: &[u8]) -> (State, Event) {
-    let record = match frame::read(edition, frame) {
+    let record = match frame::read(edition, Tuner::None, frame) {
         Ok((record, _)) => record,
         Err(number) => return (old, Event::Refused(number)),
     };

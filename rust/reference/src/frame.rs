@@ -1,5 +1,5 @@
-//! The warning frame (document 01, "The frame, bit by bit" and "When the box says no"; document 02, "The area safety edition" and "Damaged
-//! synchronising bits").
+//! The warning frame (document 01, "The frame, bit by bit" and "When the box says no"; document 02, "The area safety edition", "Damaged
+//! synchronising bits" and "The record must say where it came from").
 use crate::code::{encode, frame_of};
 use crate::crc::crc10;
 use crate::{bit, get, put, repair, FRAME_BYTES};
@@ -28,9 +28,45 @@ impl Edition {
     }
 }
 
-/// "A record holds only B0, the pattern, the identification and the fields that these, page and kind leave free": 19 numbers, 0 where a
-/// field is not free. The constants below are their indices.
-pub type Record = [u64; 19];
+/// "the tuner that the reader is told (main, spare, or none, as in a desk record)".
+#[derive(Clone, Copy, Debug, PartialEq, Eq)]
+pub enum Tuner {
+    None,
+    Main,
+    Spare,
+}
+
+/// In the order of their numbers.
+pub const TUNERS: [Tuner; 3] = [Tuner::None, Tuner::Main, Tuner::Spare];
+
+impl Tuner {
+    /// Its number in a record.
+    pub fn number(self) -> u64 {
+        match self {
+            Tuner::None => 0,
+            Tuner::Main => 1,
+            Tuner::Spare => 2,
+        }
+    }
+
+    /// The tuner that a plain number names. Any number may be asked: one that is no tuner's names none.
+    pub fn named(number: u64) -> Tuner {
+        match number {
+            1 => Tuner::Main,
+            2 => Tuner::Spare,
+            _ => Tuner::None,
+        }
+    }
+}
+
+/// How many values a record has, and how many of them, the first ones, stand in the frame; the others say where the record came from.
+pub const VALUES: usize = 21;
+pub const IN_FRAME: usize = 19;
+
+/// "A record holds only B0, the pattern, the identification and the fields that these, page and kind leave free": these stand in the frame, 0
+/// where a field is not free. "A frame record gains the tuner that the reader is told ... and the number of repaired places." The constants below
+/// are their indices.
+pub type Record = [u64; VALUES];
 
 pub const REFERENCE: usize = 0;
 pub const PATTERN: usize = 1;
@@ -53,6 +89,10 @@ pub const OCCURRED: usize = 16;
 pub const BROADCASTER: usize = 17;
 /// B55 to B111 of area safety information and of its test, B55 highest (source document 000, schedule 5).
 pub const REGION: usize = 18;
+/// The number of the tuner that the reader was told; "The writer ignores both", this and the next, so any number may stand here.
+pub const TUNER: usize = 19;
+/// "the number of repaired places": those of B17 to B203, as document 02, e) says: "the repaired places ... do not change".
+pub const REPAIRED: usize = 20;
 
 /// "B1..B16: 0011010111101110 (pattern 0) or its complement (pattern 1)."
 const PATTERNS: [u64; 2] = [0b0011_0101_1110_1110, 0b1100_1010_0001_0001];
@@ -61,16 +101,15 @@ const PATTERNS: [u64; 2] = [0b0011_0101_1110_1110, 0b1100_1010_0001_0001];
 const MOST_DIFFERING: u8 = 3;
 
 /// What was put right in an accepted frame.
-#[derive(Clone, Copy, Debug, PartialEq, Eq)]
-pub struct Damage {
+struct Damage {
     /// How many places of B17 to B203 were repaired.
-    pub repaired: u8,
+    repaired: u8,
     /// How many bits of B1 to B16 differed from the pattern; they are not among the repaired places.
-    pub differing: u8,
+    differing: u8,
 }
 
-/// The places of the record's fields; the pattern, one bit of the record, stands in 16.
-const PLACES: [RangeInclusive<usize>; 19] = [
+/// The places of the fields that stand in the frame; the pattern, one bit of the record, stands in 16.
+const PLACES: [RangeInclusive<usize>; IN_FRAME] = [
     0..=0,
     1..=16,
     21..=23,
@@ -248,18 +287,22 @@ pub fn clean(edition: Edition, frame: &[u8]) -> Result<[u8; FRAME_BYTES], u8> {
     accept(edition, frame).map(|(whole, _)| whole)
 }
 
-/// The record and the damage, or the refusal's number: "the frame reader passes that on beside the record".
-pub fn read(edition: Edition, frame: &[u8]) -> Result<(Record, Damage), u8> {
+/// The record and how many bits of B1 to B16 differed, or the refusal's number: "the frame reader passes that on beside the record". The tuner is
+/// the one "that the reader is told"; it changes nothing else.
+pub fn read(edition: Edition, tuner: Tuner, frame: &[u8]) -> Result<(Record, u8), u8> {
     let (whole, damage) = accept(edition, frame)?;
-    let mut record = [0; 19];
+    let mut record = [0; VALUES];
     for field in body_of(&whole).free() {
         record[field] = get(&whole, PLACES[field].clone());
     }
     record[PATTERN] = u64::from(record[PATTERN] == PATTERNS[1]);
-    Ok((record, damage))
+    record[TUNER] = tuner.number();
+    record[REPAIRED] = u64::from(damage.repaired);
+    Ok((record, damage.differing))
 }
 
-/// "The frame writer tests its buffer (1), then the identification (6), then 10, then 9": the last three, which do not look at a buffer.
+/// "The frame writer tests its buffer (1), then the identification (6), then 10, then 9": the last three, which do not look at a buffer. Only what
+/// stands in the frame is tested: of the tuner and the number of repaired places "The writer ignores both", so neither is ever a 10.
 pub fn record_refusal(edition: Edition, record: &Record) -> u8 {
     let identification = record[IDENTIFICATION];
     if !edition.defines(identification) {
@@ -270,7 +313,7 @@ pub fn record_refusal(edition: Edition, record: &Record) -> u8 {
     let misplaced = |field| {
         record[field] >> width(field) != 0 || (record[field] != 0 && !free.contains(&field))
     };
-    if (0..19).any(misplaced) {
+    if (0..IN_FRAME).any(misplaced) {
         return 10;
     }
     if over_limit(body, record[LATITUDE], record[LONGITUDE]) {

@@ -1,6 +1,6 @@
 //! A plain version of what the box computes, to compare the proved one with. It was written from document 01, by people who had read the Rattle, and
-//! for damaged synchronising bits and for the area safety edition from document 02, e) and a), each by one who had not: the two have no code in
-//! common, but what was read wrongly in the documents may be wrong in both.
+//! from document 02, e), a) and j) (damaged synchronising bits, the area safety edition, and where a record came from), each by one who had not read
+//! the proved version: the two have no code in common, but what was read wrongly in the documents may be wrong in both.
 pub mod capture;
 pub mod code;
 pub mod crc;

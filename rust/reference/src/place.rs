@@ -1,7 +1,7 @@
-//! The place in degrees, and the desk's place as field values (document 01, "The place in degrees").
+//! The place in degrees, and the desk's place as field values (document 01, "The place in degrees"); the desk's record (document 02, j).
 use crate::frame::{
-    record_refusal, Edition, Record, DEPTH, IDENTIFICATION, KIND, LATITUDE, LONGITUDE, PAGE, SOUTH,
-    WEST,
+    record_refusal, Edition, Record, Tuner, DEPTH, IDENTIFICATION, ITEM, KIND, LATITUDE, LONGITUDE,
+    NUMBER, OCCURRED, PAGE, SOUTH, TIME, TOTAL, TUNER, UPDATE, VALUES, WEST,
 };
 
 /// "The desk's hand-typed place is one record of three doubles."
@@ -20,6 +20,18 @@ pub struct PlaceFields {
     pub west: u64,
     pub longitude: u64,
     pub depth: u64,
+}
+
+/// What the desk gives of a warning beside its place.
+#[derive(Clone, Copy, Debug, PartialEq, Eq)]
+pub struct DeskWarning {
+    pub identification: u64,
+    pub update: u64,
+    pub time: u64,
+    pub total: u64,
+    pub item: u64,
+    pub number: u64,
+    pub occurred: u64,
 }
 
 /// "A report is a place with its three doubles, a cancellation, or areas only"; "Identification 7 is a fourth case, nothing." For
@@ -75,6 +87,36 @@ pub fn fields_of(place: Place) -> Result<PlaceFields, u8> {
         longitude,
         depth,
     })
+}
+
+/// The record of what the desk gives: page 1 and kind 0, which hold a place, and 0 in all that is not given. Its tuner is "none, as in a desk
+/// record", and no place of it was repaired. The place is tested first (11), then the record as by the writer, by the edition named: 6 or 10, but
+/// never 9, for the place's images keep the house limits.
+pub fn desk_record(edition: Edition, warning: DeskWarning, place: Place) -> Result<Record, u8> {
+    let fields = fields_of(place)?;
+    let mut record = [0; VALUES];
+    for (field, value) in [
+        (IDENTIFICATION, warning.identification),
+        (UPDATE, warning.update),
+        (TIME, warning.time),
+        (PAGE, 1),
+        (TOTAL, warning.total),
+        (ITEM, warning.item),
+        (NUMBER, warning.number),
+        (SOUTH, fields.south),
+        (LATITUDE, fields.latitude),
+        (WEST, fields.west),
+        (LONGITUDE, fields.longitude),
+        (DEPTH, fields.depth),
+        (OCCURRED, warning.occurred),
+        (TUNER, Tuner::None.number()),
+    ] {
+        record[field] = value;
+    }
+    match record_refusal(edition, &record) {
+        0 => Ok(record),
+        number => Err(number),
+    }
 }
 
 /// "For a record that is not legal the answer is the writer's 6, 10 or 9", by the edition named.

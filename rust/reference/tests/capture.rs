@@ -1,7 +1,7 @@
 //! Two captures, in both editions: which frame is taken, from where, and both numbers.
 mod common;
 use common::{flipped, frame, in_both, written, ALL_AREAS};
-use reference::frame::EDITIONS;
+use reference::frame::{EDITIONS, VALUES};
 use reference::{capture, flip_bit};
 
 /// What both editions take, from the same place.
@@ -17,7 +17,7 @@ fn numbers(main: &[u8], spare: &[u8], n: u64) -> (u8, u8) {
 }
 
 fn good() -> Vec<u8> {
-    written(&[0; 19]).to_vec()
+    written(&[0; VALUES]).to_vec()
 }
 
 fn damaged(hits: usize) -> Vec<u8> {

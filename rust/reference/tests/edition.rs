@@ -1,16 +1,16 @@
 //! The area safety edition (document 02, a): what each edition makes of every identification, the details of 5 and 6 carried whole, and that the
 //! editions differ in nothing else.
 mod common;
-use common::{damage, flipped, frame, hex, in_both, record, sealed, written, written_in};
-use common::{listing as both_list, read as both_read};
+use common::{flipped, found, frame, hex, in_both, record, sealed, written, written_in};
+use common::{listing as both_list, read as both_read, read_in as read};
 use reference::capture::{frame_at, number, numbers};
 use reference::code::GENERATOR;
 use reference::follower::{follow, Event, Kind, State};
 use reference::frame::Edition::{AreaSafety, First};
 use reference::frame::{
-    clean, judge, read, record_refusal, warned, write, Edition, Record, AREAS, BROADCASTER, DEPTH,
+    clean, judge, record_refusal, warned, write, Edition, Record, AREAS, BROADCASTER, DEPTH,
     EDITIONS, IDENTIFICATION, ITEM, KIND, LATITUDE, LONGITUDE, NUMBER, OCCURRED, PAGE, PATTERN,
-    REFERENCE, REGION, SOUTH, TIME, TOTAL, UPDATE, WEST,
+    REFERENCE, REGION, SOUTH, TIME, TOTAL, UPDATE, VALUES, WEST,
 };
 use reference::header::{lay_in, take_out};
 use reference::listing::listing;
@@ -199,7 +199,7 @@ fn known_digits() {
         ),
     ] {
         assert_eq!(hex(&written_in(AreaSafety, &fields)), digits);
-        let expected = Ok((fields, damage(0, 0)));
+        let expected = Ok(found(fields, 0, 0));
         assert_eq!(read(AreaSafety, &frame(digits)), expected, "{digits}");
         assert_eq!(read(First, &frame(digits)), Err(6), "{digits}");
     }
@@ -224,7 +224,7 @@ fn start_end_and_update() {
             for identification in [5, 6] {
                 let frame = made(start_end, update, identification, time, region);
                 let expected = match start_end {
-                    0 => Ok((safety(identification, update, time, region), damage(0, 0))),
+                    0 => Ok(found(safety(identification, update, time, region), 0, 0)),
                     _ => Err(7),
                 };
                 assert_eq!(read(AreaSafety, &frame), expected);
@@ -247,7 +247,7 @@ fn any_details_there_and_back() {
                 (get(&frame, 24..=54), get(&frame, 55..=111)),
                 (time, region)
             );
-            assert_eq!(read(AreaSafety, &frame), Ok((fields, damage(0, 0))));
+            assert_eq!(read(AreaSafety, &frame), Ok(found(fields, 0, 0)));
             assert_eq!(clean(AreaSafety, &frame), Ok(frame));
             assert_eq!(written_in(AreaSafety, &fields), frame);
         }
@@ -262,7 +262,7 @@ fn each_bit_of_the_details_in_its_place() {
             24..=54 => (1 << (54 - k), 0),
             _ => (0, 1 << (111 - k)),
         };
-        let expected = Ok((safety(5, 0, time, region), damage(0, 0)));
+        let expected = Ok(found(safety(5, 0, time, region), 0, 0));
         assert_eq!(read(AreaSafety, &frame), expected, "B{k}");
     }
 }
@@ -275,7 +275,7 @@ fn the_reference_bit_and_the_pattern_are_carried() {
         let frame = written_in(AreaSafety, &fields);
         assert_eq!(get(&frame, 0..=0), reference);
         assert_eq!(get(&frame, 1..=16), [0x35EE, 0xCA11][pattern as usize]);
-        assert_eq!(read(AreaSafety, &frame), Ok((fields, damage(0, 0))));
+        assert_eq!(read(AreaSafety, &frame), Ok(found(fields, 0, 0)));
     }
 }
 
@@ -288,8 +288,8 @@ fn damage_is_put_right() {
             for differing in 0..=3 {
                 let pattern: Vec<usize> = (0..differing).map(|i| 4 + 5 * i).collect();
                 let received = flipped(flipped(whole, &hits(count)), &pattern);
-                let expected = damage(count as u8, differing as u8);
-                assert_eq!(read(AreaSafety, &received), Ok((fields, expected)));
+                let expected = found(fields, count as u8, differing as u8);
+                assert_eq!(read(AreaSafety, &received), Ok(expected));
                 assert_eq!(judge(AreaSafety, &received), Ok(count as u8));
                 assert_eq!(clean(AreaSafety, &received), Ok(whole));
                 assert_eq!(read(First, &received), Err(6));
@@ -508,10 +508,10 @@ fn alike(frame: &[u8; 26], random: &mut Random) {
 fn records_differ_in_5_and_6_only() {
     let mut random = Random(12345);
     for _ in 0..30_000 {
-        let mut fields: Record = [0; 19];
+        let mut fields: Record = [0; VALUES];
         fields[IDENTIFICATION] = random.number() % 9;
         for _ in 0..random.below(4) {
-            fields[random.below(19)] = random.number() >> random.below(64);
+            fields[random.below(VALUES)] = random.number() >> random.below(64);
         }
         let numbers = EDITIONS.map(|edition| record_refusal(edition, &fields));
         match fields[IDENTIFICATION] {
@@ -662,7 +662,7 @@ fn reports() {
 #[test]
 fn the_same_bytes_listed_twice() {
     let mut input = [
-        written(&[0; 19]),
+        written(&[0; VALUES]),
         sent(5, 0),
         flipped(sent(6, 1), &hits(8)),
         made(2, 0, 6, 0, 0),

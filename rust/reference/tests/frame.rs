@@ -1,12 +1,13 @@
 //! Frames and records: document 01's worked examples, each refusal, their order, and the way there and back. What is read, judged and written is
 //! the same in both editions.
 mod common;
-use common::{clean, damage, frame, hex, judge, read, record, record_refusal, sealed, written};
+use common::{clean, found, frame, hex, judge, read, record, record_refusal, sealed, written};
 use common::{flipped, ALL_AREAS};
 use reference::code::GENERATOR;
 use reference::frame::{
     warned, write, Record, AREAS, BROADCASTER, DEPTH, EDITIONS, IDENTIFICATION, KIND, LATITUDE,
-    LONGITUDE, NUMBER, OCCURRED, PAGE, PATTERN, REFERENCE, SOUTH, TIME, TOTAL, UPDATE, WEST,
+    LONGITUDE, NUMBER, OCCURRED, PAGE, PATTERN, REFERENCE, SOUTH, TIME, TOTAL, UPDATE, VALUES,
+    WEST,
 };
 use reference::{flip_bit, put};
 
@@ -42,8 +43,8 @@ fn with(base: &Record, changes: &[(usize, u64)]) -> Record {
 #[test]
 fn pattern_0_with_all_else_zero() {
     let all = frame(ALL_AREAS);
-    let (read, put_right) = read(&all).expect("accepted");
-    assert_eq!((read, put_right), ([0; 19], damage(0, 0)));
+    let (read, differing) = read(&all).expect("accepted");
+    assert_eq!((read, differing), ([0; VALUES], 0));
     assert!((0..56).all(|area| warned(&read, area)));
     for area in [56, 63, 64, 1 << 32, u64::MAX] {
         assert!(!warned(&read, area), "area {area}");
@@ -166,8 +167,9 @@ fn the_repair_alone_looks_at_b17_to_b203() {
 fn the_reference_bit_is_carried() {
     let mut set = frame(ALL_AREAS);
     set[0] = 0x9a;
-    let (read, put_right) = read(&set).expect("accepted");
-    assert_eq!((read[REFERENCE], put_right), (1, damage(0, 0)));
+    let (read, differing) = read(&set).expect("accepted");
+    let expected = found(record(&[(REFERENCE, 1)]), 0, 0);
+    assert_eq!((read, differing), expected);
     assert_eq!(written(&read), set);
 }
 
@@ -175,7 +177,7 @@ fn the_reference_bit_is_carried() {
 fn no_information() {
     let digits = "1af77fffffffffffffffffffffff698fbee80b006e0824cd3d10";
     let expected = record(&[(IDENTIFICATION, 7), (BROADCASTER, 2047)]);
-    assert_eq!(read(&frame(digits)), Ok((expected, damage(0, 0))));
+    assert_eq!(read(&frame(digits)), Ok(found(expected, 0, 0)));
     assert_eq!(hex(&written(&expected)), digits);
 }
 
@@ -183,7 +185,7 @@ fn no_information() {
 fn a_cancellation() {
     let digits = "1af70000000001001fffffffffffe43d0ff2f235a3cbf9db1c70";
     let expected = record(&[(PAGE, 1), (KIND, 1)]);
-    assert_eq!(read(&frame(digits)), Ok((expected, damage(0, 0))));
+    assert_eq!(read(&frame(digits)), Ok(found(expected, 0, 0)));
     assert_eq!(hex(&written(&expected)), digits);
 }
 
@@ -271,7 +273,7 @@ fn the_writers_buffer() {
 #[test]
 fn an_area_warning_without_area_is_accepted() {
     let without = record(&[(IDENTIFICATION, 1), (UPDATE, 3)]);
-    assert_eq!(read(&written(&without)), Ok((without, damage(0, 0))));
+    assert_eq!(read(&written(&without)), Ok(found(without, 0, 0)));
 }
 
 #[test]
@@ -294,7 +296,7 @@ fn there_and_back_with_hits() {
                 flip_bit(&mut frame, 17 + 23 * i);
             }
             let expected = if hits < 9 {
-                Ok((base, damage(hits as u8, 0)))
+                Ok(found(base, hits as u8, 0))
             } else {
                 Err(4)
             };

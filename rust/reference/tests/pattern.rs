@@ -2,11 +2,11 @@
 //! editions.
 mod common;
 use common::ALL_AREAS;
-use common::{clean, damage, flipped, frame, hex, judge, listing, read, record, written};
+use common::{clean, flipped, found, frame, hex, judge, listing, read, record, written};
 use reference::code::GENERATOR;
 use reference::frame::{
-    Damage, Record, AREAS, BROADCASTER, DEPTH, IDENTIFICATION, KIND, LATITUDE, LONGITUDE, NUMBER,
-    PAGE, PATTERN, REFERENCE, TIME, UPDATE,
+    Record, AREAS, BROADCASTER, DEPTH, IDENTIFICATION, KIND, LATITUDE, LONGITUDE, NUMBER, PAGE,
+    PATTERN, REFERENCE, TIME, UPDATE, VALUES,
 };
 use reference::put;
 
@@ -71,12 +71,12 @@ fn records() -> [Record; 4] {
 fn the_edges_of_example_11() {
     // The bytes that hold B0 to B16, so that the frames below are known: 1af7 with 3, 4, 12, 13 and 16 of its bits turned over.
     for (n, digits, expected) in [
-        (0, "1af700", Ok(([0; 19], damage(0, 0)))),
-        (3, "6af700", Ok(([0; 19], damage(0, 3)))),
+        (0, "1af700", Ok(found([0; VALUES], 0, 0))),
+        (3, "6af700", Ok(found([0; VALUES], 0, 3))),
         (4, "62f700", Err(3)),
         (12, "650f00", Err(3)),
-        (13, "650b00", Ok((record(&[(PATTERN, 1)]), damage(0, 3)))),
-        (16, "650880", Ok((record(&[(PATTERN, 1)]), damage(0, 0)))),
+        (13, "650b00", Ok(found(record(&[(PATTERN, 1)]), 0, 3))),
+        (16, "650880", Ok(found(record(&[(PATTERN, 1)]), 0, 0))),
     ] {
         let frame = first_turned(n);
         assert_eq!(hex(&frame[..3]), digits, "{n} bits");
@@ -94,8 +94,8 @@ fn every_choice_of_up_to_three_bits() {
             let whole = written(&sent);
             for places in &choices {
                 let received = flipped(whole, places);
-                let expected = damage(0, places.len() as u8);
-                assert_eq!(read(&received), Ok((sent, expected)), "{places:?}");
+                let expected = found(sent, 0, places.len() as u8);
+                assert_eq!(read(&received), Ok(expected), "{places:?}");
                 assert_eq!(clean(&received), Ok(whole), "{places:?}");
                 assert_eq!(judge(&received), Ok(0), "{places:?}");
             }
@@ -113,8 +113,8 @@ fn every_value_of_b1_to_b16() {
         );
         assert_eq!(from_0 + from_1, 16, "they differ in all sixteen");
         let expected = match (from_0, from_1) {
-            (0..=3, _) => Ok(([0; 19], damage(0, from_0))),
-            (_, 0..=3) => Ok((record(&[(PATTERN, 1)]), damage(0, from_1))),
+            (0..=3, _) => Ok(found([0; VALUES], 0, from_0)),
+            (_, 0..=3) => Ok(found(record(&[(PATTERN, 1)]), 0, from_1)),
             _ => Err(3),
         };
         accepted += u32::from(expected.is_ok());
@@ -135,7 +135,7 @@ fn zeros_and_ones_are_neither_pattern() {
 fn three_differing_bits_and_eight_hits() {
     let hits: Vec<usize> = GENERATOR[..8].iter().map(|power| 203 - power).collect();
     let received = flipped(first_turned(3), &hits);
-    assert_eq!(read(&received), Ok(([0; 19], damage(8, 3))));
+    assert_eq!(read(&received), Ok(found([0; VALUES], 8, 3)));
     assert_eq!(judge(&received), Ok(8));
     assert_eq!(clean(&received), Ok(frame(ALL_AREAS)));
     assert_eq!(listing(&received), b"1 0 8\nend 1\n");
@@ -193,12 +193,12 @@ fn written_again_with_the_clean_pattern() {
                     let mut places: Vec<usize> = (0..differing).map(|i| 4 + 5 * i).collect();
                     places.extend((0..hits).map(|i| 17 + 23 * i));
                     let received = flipped(whole, &places);
-                    let (record, put_right) = read(&received).expect("accepted");
-                    assert_eq!(record, sent);
-                    assert_eq!(put_right, damage(hits as u8, differing as u8));
+                    let (record, other_bits) = read(&received).expect("accepted");
+                    let expected = found(sent, hits as u8, differing as u8);
+                    assert_eq!((record, other_bits), expected);
                     assert_eq!(clean(&received), Ok(whole));
                     assert_eq!(written(&record), whole);
-                    assert_eq!(read(&whole), Ok((sent, damage(0, 0))));
+                    assert_eq!(read(&whole), Ok(found(sent, 0, 0)));
                 }
             }
         }
@@ -210,9 +210,9 @@ fn b0_is_not_counted() {
     for turned in 0..=16 {
         let clear = first_turned(turned);
         let set = flipped(clear, &[0]);
-        let with_b0 = |(mut record, damage): (Record, Damage)| {
+        let with_b0 = |(mut record, differing): (Record, u8)| {
             record[REFERENCE] = 1;
-            (record, damage)
+            (record, differing)
         };
         assert_eq!(read(&set), read(&clear).map(with_b0));
         let whole = clean(&clear).map(|frame| flipped(frame, &[0]));

@@ -1,23 +1,24 @@
 //! Frames of all sorts: legal in both editions or in one, damaged in the word or the pattern, with one fault, with several, noise, and of other
 //! lengths.
-use crate::records::{bodies, legal_record, Body, BODIES};
+use crate::records::{bodies, legal_record, with_origin, Body, BODIES};
 use crate::Random;
 use reference::code::{encode, frame_of};
 use reference::crc::crc10;
 use reference::frame::{
-    write, Damage, Edition, Record, EDITIONS, IDENTIFICATION, PATTERN, REFERENCE, REGION, TIME,
-    UPDATE,
+    write, Edition, Record, EDITIONS, IDENTIFICATION, PATTERN, REFERENCE, REGION, TIME, UPDATE,
+    VALUES,
 };
 use reference::{bit, flip_bit, get, put, FRAME_BYTES};
 
 /// The bodies that fix bits of the details.
 const FIXING: [Body; 3] = [Body::Place, Body::Cancellation, Body::NoInformation];
 
-/// What the frame's making says of its reading in an edition, without any repair.
+/// What the frame's making says of its reading in an edition, without any repair. The reader is told no tuner.
 #[derive(Clone, Copy, Debug, PartialEq, Eq)]
 pub enum Expected {
-    /// This record; so many places were hit, eight at most, and so many bits of B1 to B16 differ from its pattern, three at most.
-    Read(Record, Damage),
+    /// This record, and so many bits of B1 to B16 that differ from its pattern, three at most. Its tuner is 0, and its number of repaired places is
+    /// that of the places hit, eight at most, which is always known here.
+    Read(Record, u8),
     Refused(u8),
     /// More than nine places hit, or noise.
     Open,
@@ -127,7 +128,7 @@ pub fn faulty(edition: Edition, faults: &[u8], random: &mut Random) -> Sample {
         bytes.resize(length + usize::from(length == FRAME_BYTES), 0);
     }
     let expected = read.map(|read| match read {
-        Ok(record) => Expected::Read(record, damage(hits, flips)),
+        Ok(record) => expected_read(&record, hits, flips),
         Err(4) if hits > 9 => Expected::Open,
         Err(number) => Expected::Refused(number),
     });
@@ -158,7 +159,7 @@ fn reading(edition: Edition, faults: &[u8], record: &Record, frame: &[u8]) -> Re
 
 /// The record of a whole frame of identification 5 or 6: B24 to B54 and B55 to B111 as they stand.
 fn safety_record(frame: &[u8]) -> Record {
-    let mut record = [0; 19];
+    let mut record = [0; VALUES];
     record[REFERENCE] = get(frame, 0..=0);
     record[PATTERN] = get(frame, 1..=1);
     record[UPDATE] = get(frame, 19..=20);
@@ -207,7 +208,7 @@ fn headed(record: &Record, head: u64, random: &mut Random) -> Sample {
     let hits = random.below(9);
     hit(&mut frame, hits, random);
     let expected = read.map(|read| match read {
-        Some(Ok(record)) => Expected::Read(record, damage(hits, 0)),
+        Some(Ok(record)) => expected_read(&record, hits, 0),
         Some(Err(number)) => Expected::Refused(number),
         None => Expected::Open,
     });
@@ -263,7 +264,7 @@ fn legal_with(body: Body, pattern: u64, reference: u64, random: &mut Random) -> 
 }
 
 /// The frame of a legal record with so many of B1 to B16 turned over, so many places hit, and, if asked, a filler bit that is 1.
-fn damaged_pattern(
+pub fn damaged_pattern(
     record: &Record,
     flips: usize,
     hits: usize,
@@ -289,7 +290,7 @@ fn damaged_pattern(
         (_, _, 9) => Expected::Refused(4),
         (_, _, 10..) => Expected::Open,
         _ if edition == Edition::First && is_safety(record) => Expected::Refused(6),
-        _ => Expected::Read(nearest, damage(hits, differing)),
+        _ => expected_read(&nearest, hits, differing),
     });
     Sample {
         bytes: frame.to_vec(),
@@ -302,12 +303,10 @@ fn is_safety(record: &Record) -> bool {
     matches!(record[IDENTIFICATION], 5 | 6)
 }
 
-/// So many hits, eight at most, and so many bits that differ from the pattern, three at most.
-fn damage(hits: usize, differing: usize) -> Damage {
-    Damage {
-        repaired: hits as u8,
-        differing: differing as u8,
-    }
+/// What a reader that is told no tuner makes of this record's frame with so many hits, eight at most, and so many bits that differ from the pattern,
+/// three at most. What the record itself held as tuner and repaired places is not written: "The writer ignores both."
+fn expected_read(record: &Record, hits: usize, differing: usize) -> Expected {
+    Expected::Read(with_origin(record, 0, hits as u64), differing as u8)
 }
 
 /// The frame of a record that is legal in some edition: all of them are legal in the area safety edition, and each edition writes them alike.

@@ -1,4 +1,7 @@
-//! Frames, records, headers and doubles to try the two versions on, each made from a seed: the same seed gives the same sample.
+//! Frames, captures, records, headers, doubles and what a desk gives, to try the two versions on, each made from a seed: the same seed gives the same
+//! sample.
+pub mod captures;
+pub mod desks;
 pub mod doubles;
 pub mod frames;
 pub mod headers;

@@ -2,10 +2,35 @@
 use crate::Random;
 use reference::frame::*;
 
-/// How many bits each field has where it is free.
-pub const WIDTHS: [u32; 19] = [
+/// How many bits each field that stands in the frame has where it is free.
+pub const WIDTHS: [u32; IN_FRAME] = [
     1, 1, 3, 2, 31, 1, 56, 1, 1, 9, 1, 1, 10, 1, 11, 10, 10, 11, 57,
 ];
+
+/// What a record is tried with in the tuner and the number of repaired places, which the writer ignores: the tuners' numbers, and numbers that are
+/// none.
+pub const ORIGINS: [u64; 7] = [0, 1, 2, 3, 255, 256, u64::MAX];
+
+/// One of `ORIGINS`, or any number of any width.
+pub fn origin(random: &mut Random) -> u64 {
+    let any = random.number() >> random.below(64);
+    match random.below(4) {
+        0 => any,
+        _ => random.pick(&ORIGINS),
+    }
+}
+
+/// The record with any tuner and any number of repaired places.
+pub fn with_any_origin(record: &Record, random: &mut Random) -> Record {
+    with_origin(record, origin(random), origin(random))
+}
+
+/// The record with this number of a tuner and so many repaired places, and the same in all other fields.
+pub fn with_origin(record: &Record, tuner: u64, repaired: u64) -> Record {
+    let mut record = *record;
+    (record[TUNER], record[REPAIRED]) = (tuner, repaired);
+    record
+}
 
 /// What a frame's details hold.
 #[derive(Clone, Copy, Debug, PartialEq, Eq)]
@@ -70,9 +95,9 @@ fn greatest(field: usize) -> u64 {
     }
 }
 
-/// A legal record of this body, in each edition that has the body.
+/// A legal record of this body, in each edition that has the body; its tuner and its number of repaired places are any.
 pub fn legal_record(body: Body, random: &mut Random) -> Record {
-    let mut record = [0; 19];
+    let mut record = with_any_origin(&[0; VALUES], random);
     for &field in body.free() {
         record[field] = random.up_to(greatest(field));
     }
@@ -86,17 +111,19 @@ pub fn legal_record(body: Body, random: &mut Random) -> Record {
     record
 }
 
-/// A record for the writer: legal in some edition, with up to three fields changed, or of any numbers.
+/// A record for the writer: legal in some edition, with up to three fields changed, or of any numbers. In each the tuner and the number of repaired
+/// places are any.
 pub fn record(random: &mut Random) -> Record {
     if random.below(16) == 0 {
-        return std::array::from_fn(|_| random.number() >> random.below(64));
+        let any = std::array::from_fn(|_| random.number() >> random.below(64));
+        return with_any_origin(&any, random);
     }
     let mut record = legal_record(random.pick(&BODIES), random);
     for _ in 0..random.below(4) {
         let field = match random.below(8) {
             0 => IDENTIFICATION,
             1 => REGION,
-            _ => random.below(19),
+            _ => random.below(IN_FRAME),
         };
         let past = 1u64 << WIDTHS[field];
         let any = random.number();
@@ -124,7 +151,8 @@ impl Edge {
 }
 
 /// For each body, records with a free field at its ends and beyond, with another field that is not 0, with a page or kind of more than a bit, and
-/// with an identification that is undefined in both editions.
+/// with an identification that is undefined in both editions. Each of `ORIGINS` as the tuner and as the number of repaired places is among the legal
+/// ones; in all others these two are any.
 pub fn edges(random: &mut Random) -> Vec<Edge> {
     let mut edges = vec![];
     for body in BODIES {
@@ -143,6 +171,9 @@ pub fn edges(random: &mut Random) -> Vec<Edge> {
         }
         for field in [PAGE, KIND] {
             edges.extend([2, u64::MAX].map(|value| edge(body, field, value, 10, random)));
+        }
+        for field in [TUNER, REPAIRED] {
+            edges.extend(ORIGINS.map(|value| edge(body, field, value, 0, random)));
         }
         let undefined = [4, 8, 12, 13, 14, 15, 255, u64::MAX];
         edges.extend(undefined.map(|value| edge(body, IDENTIFICATION, value, 6, random)));

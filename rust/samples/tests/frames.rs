@@ -1,22 +1,34 @@
 //! What the making of a frame says of its reading in each edition, held to the plain version; and how often the limits of the damage are reached.
 use reference::frame::Edition::{AreaSafety, First};
 use reference::frame::{
-    read, Damage, Edition, Record, EDITIONS, IDENTIFICATION, PATTERN, REFERENCE, REGION, TIME,
+    read, Edition, Record, EDITIONS, IDENTIFICATION, PATTERN, REFERENCE, REGION, REPAIRED, TIME,
+    TUNERS,
 };
 use reference::get;
 use samples::frames::{all_heads, damaged_patterns, faulty, frame, Expected, Sample, ENDS};
+use samples::records::with_origin;
 use samples::Random;
 
-/// The plain version answers as the making says, where it says anything.
+/// The plain version answers as the making says, where it says anything; told no tuner exactly so, and told another one but for that.
 fn agree(sample: &Sample) {
     for edition in EDITIONS {
         let expected = match sample.expected(edition) {
-            Expected::Read(record, damage) => Ok((record, damage)),
+            Expected::Read(record, differing) => Ok((record, differing)),
             Expected::Refused(number) => Err(number),
             Expected::Open => continue,
         };
-        let answer = read(edition, &sample.bytes);
-        assert_eq!(answer, expected, "{edition:?} {:02x?}", sample.bytes);
+        for (number, tuner) in (0..).zip(TUNERS) {
+            let told = |(record, differing): (Record, u8)| {
+                let record = with_origin(&record, number, record[REPAIRED]);
+                (record, differing)
+            };
+            let answer = read(edition, tuner, &sample.bytes);
+            let expected = match number {
+                0 => expected,
+                _ => expected.map(told),
+            };
+            assert_eq!(answer, expected, "{edition:?} {:02x?}", sample.bytes);
+        }
     }
 }
 
@@ -153,13 +165,11 @@ fn every_damage(edition: Edition, bodies: usize, samples: &[Sample]) {
         for reference in 0..2 {
             for repaired in 0..=8 {
                 for differing in 0..=3 {
-                    let damage = Damage {
-                        repaired,
-                        differing,
-                    };
                     let same = |sample: &&Sample| {
                         matches!(sample.expected(edition), Expected::Read(record, of)
-                            if of == damage && record[PATTERN] == pattern && record[REFERENCE] == reference)
+                            if (record[REPAIRED], of) == (repaired, differing)
+                                && record[PATTERN] == pattern
+                                && record[REFERENCE] == reference)
                     };
                     // Sent with this pattern, or with the other one and all the other bits turned over; each for every body.
                     assert_eq!(samples.iter().filter(same).count(), 2 * bodies);

@@ -1,10 +1,12 @@
 //! What the making of a record says of its refusal in each edition, held to the plain version; and that all its edges are reached.
 use reference::frame::Edition::{AreaSafety, First};
 use reference::frame::{
-    record_refusal, write, Record, AREAS, EDITIONS, IDENTIFICATION, PAGE, REGION, TIME,
+    record_refusal, write, Record, AREAS, EDITIONS, IDENTIFICATION, IN_FRAME, PAGE, REGION,
+    REPAIRED, TIME, TUNER,
 };
 use samples::frames::written;
-use samples::records::{bodies, edges, legal_record, record, Body, BODIES, WIDTHS};
+use samples::records::{bodies, edges, legal_record, origin, record, with_any_origin, with_origin};
+use samples::records::{Body, BODIES, ORIGINS, WIDTHS};
 use samples::Random;
 
 fn is_safety(record: &Record) -> bool {
@@ -85,6 +87,13 @@ fn every_edge() {
     assert_eq!(count(6, 10, &|r| r[AREAS] != 0), 4);
     // Eight undefined identifications for each body.
     assert_eq!(count(6, 6, &|_| true), 8 * 5);
+    // Each number as the tuner and as the repaired places of a legal record of each body.
+    for field in [TUNER, REPAIRED] {
+        for value in ORIGINS {
+            assert!(count(0, 0, &|r| r[field] == value) >= 4, "{field} {value}");
+            assert!(count(6, 0, &|r| r[field] == value) >= 1, "{field} {value}");
+        }
+    }
     assert!(count(9, 9, &|_| true) > 0);
     assert_eq!(count(6, 9, &|_| true), 0);
 }
@@ -114,4 +123,55 @@ fn every_pair_of_numbers() {
         }
     }
     assert!(region_elsewhere > 100 && page_on_safety > 20);
+}
+
+/// Every one of the numbers stands in the tuner and in the repaired places, whatever the refusals are, and other numbers too; and every pair of them.
+#[test]
+fn every_origin() {
+    let mut random = Random::new(5);
+    let records: Vec<Record> = (0..20_000).map(|_| record(&mut random)).collect();
+    for numbers in [[0, 0], [6, 0], [6, 6], [6, 10], [9, 9], [10, 10]] {
+        let refused = |r: &&Record| EDITIONS.map(|edition| record_refusal(edition, r)) == numbers;
+        let of_these: Vec<&Record> = records.iter().filter(refused).collect();
+        for field in [TUNER, REPAIRED] {
+            let holds = |value| of_these.iter().any(|r| r[field] == value);
+            assert!(ORIGINS.into_iter().all(holds), "{numbers:?} {field}");
+            assert!(of_these.iter().any(|r| !ORIGINS.contains(&r[field])));
+        }
+    }
+    for pair in ORIGINS
+        .map(|tuner| ORIGINS.map(|repaired| (tuner, repaired)))
+        .concat()
+    {
+        let same = |r: &&Record| (r[TUNER], r[REPAIRED]) == pair;
+        assert!(records.iter().filter(same).count() > 20, "{pair:?}");
+    }
+    for body in BODIES {
+        let legal: Vec<Record> = (0..300).map(|_| legal_record(body, &mut random)).collect();
+        for field in [TUNER, REPAIRED] {
+            for value in ORIGINS {
+                assert!(legal.iter().any(|record| record[field] == value));
+            }
+        }
+    }
+    assert!((0..100).any(|_| !ORIGINS.contains(&origin(&mut random))));
+}
+
+/// Only the two values are changed, and what is written and refused does not change with them.
+#[test]
+fn another_origin() {
+    let mut random = Random::new(6);
+    for _ in 0..2_000 {
+        let record = record(&mut random);
+        let other = with_any_origin(&record, &mut random);
+        assert_eq!(record[..IN_FRAME], other[..IN_FRAME]);
+        assert_eq!(with_origin(&other, record[TUNER], record[REPAIRED]), record);
+        for edition in EDITIONS {
+            let [first, second] = [&record, &other].map(|record| {
+                let mut frame = [0xA5; 26];
+                (write(edition, record, &mut frame), frame)
+            });
+            assert_eq!(first, second);
+        }
+    }
 }

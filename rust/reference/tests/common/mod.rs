@@ -2,7 +2,7 @@
 #![allow(dead_code)]
 use reference::code::{encode, frame_of};
 use reference::crc::crc10;
-use reference::frame::{self, Damage, Edition, Record, EDITIONS};
+use reference::frame::{self, Edition, Record, Tuner, EDITIONS, REPAIRED, TUNER, TUNERS, VALUES};
 use reference::{bit, flip_bit, get, put};
 use std::fmt::Debug;
 
@@ -26,19 +26,24 @@ pub fn hex(bytes: &[u8]) -> String {
 
 /// A record with these fields and 0 elsewhere.
 pub fn record(fields: &[(usize, u64)]) -> Record {
-    let mut record = [0; 19];
+    let mut record = [0; VALUES];
     for &(field, value) in fields {
         record[field] = value;
     }
     record
 }
 
-/// So many repaired places, and so many bits that differed from the pattern.
-pub fn damage(repaired: u8, differing: u8) -> Damage {
-    Damage {
-        repaired,
-        differing,
-    }
+/// The same in all fields but the two that say where it came from, which are these.
+pub fn with_origin(record: &Record, tuner: u64, repaired: u64) -> Record {
+    let mut record = *record;
+    (record[TUNER], record[REPAIRED]) = (tuner, repaired);
+    record
+}
+
+/// What a reader that is told no tuner answers: these fields with so many repaired places, and beside them so many bits that differed from the
+/// pattern.
+pub fn found(fields: Record, repaired: u8, differing: u8) -> (Record, u8) {
+    (with_origin(&fields, 0, u64::from(repaired)), differing)
 }
 
 /// The frame with these bits turned over.
@@ -78,9 +83,22 @@ pub fn written(record: &Record) -> [u8; 26] {
     in_both(|edition| written_in(edition, record))
 }
 
+/// What is read in this edition by a reader that is told no tuner; when told another one the answer is the same but for that tuner.
+pub fn read_in(edition: Edition, frame: &[u8]) -> Result<(Record, u8), u8> {
+    let none = frame::read(edition, Tuner::None, frame);
+    for (number, tuner) in (0..).zip(TUNERS) {
+        let told = |(record, differing): (Record, u8)| {
+            let record = with_origin(&record, number, record[REPAIRED]);
+            (record, differing)
+        };
+        assert_eq!(frame::read(edition, tuner, frame), none.map(told));
+    }
+    none
+}
+
 /// What both editions read.
-pub fn read(frame: &[u8]) -> Result<(Record, Damage), u8> {
-    in_both(|edition| frame::read(edition, frame))
+pub fn read(frame: &[u8]) -> Result<(Record, u8), u8> {
+    in_both(|edition| read_in(edition, frame))
 }
 
 pub fn judge(frame: &[u8]) -> Result<u8, u8> {
