@@ -50,10 +50,15 @@ fn record(r: Record) {
     }
 }
 
+// A small number, as a refusal's or of places.
+fn count(n: u8) {
+    number(n as u64);
+}
+
 // What a refusal's line says.
 fn refused(n: u8) {
     text(b" refused ");
-    number(n as u64);
+    count(n);
 }
 
 // What the line of a frame says of its reading.
@@ -61,9 +66,9 @@ fn reading(edition: Edition, frame: &[u8]) {
     match frame_reader::read(edition, Tuner::None, frame) {
         Reading::Accepted(r, differing) => {
             text(b" accepted ");
-            number(r.origin.repaired as u64);
+            count(r.origin.repaired);
             text(b" ");
-            number(differing as u64);
+            count(differing);
             record(r);
         }
         Reading::Refused(n) => refused(n),
@@ -77,7 +82,7 @@ fn repair(frame: &[u8]) {
     match outcome {
         Outcome::Repaired(places) => {
             text(b" repaired ");
-            number(places as u64);
+            count(places);
             text(b" ");
             let w = answer.word;
             bytes(&w);

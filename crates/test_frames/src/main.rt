@@ -7,16 +7,17 @@ fn edition(case: Case) -> u32 {
     (case.c % 0x100000000) as u32
 }
 
-// Answers the reader.
-fn frame_read(edition: u32, frame: &[u8], lent: &mut [u64]) -> bool {
-    test_cases::hex(abi_frame::frame_read(edition, frame, lent) as u64);
+// Answers the reader, told the tuner that the case's second number names.
+fn frame_read(case: Case, frame: &[u8], lent: &mut [u64]) -> bool {
+    let tuner = (case.b % 0x100000000) as u32;
+    test_cases::hex(abi_frame::frame_read(edition(case), tuner, frame, lent) as u64);
     test_cases::end_values(lent)
 }
 
-fn read(edition: u32, frame: &[u8], bytes: &[u8]) -> bool {
+fn read(case: Case, frame: &[u8], bytes: &[u8]) -> bool {
     let mut lent = test_values::no_values();
     let n = test_values::values(bytes, &mut lent);
-    frame_read(edition, frame, &mut lent[0..n])
+    frame_read(case, frame, &mut lent[0..n])
 }
 
 // The status of an operation on a record.
@@ -38,7 +39,7 @@ fn answer(case: Case, input: &[u8], lent: &mut [u8]) -> bool {
 
 fn run(case: Case, input: &[u8], lent: &mut [u8]) -> bool {
     if case.operation == 0 {
-        return read(edition(case), input, lent);
+        return read(case, input, lent);
     }
     if case.operation < 3 {
         return answer(case, input, lent);

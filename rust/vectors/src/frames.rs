@@ -1,16 +1,16 @@
 //! Frames and records.
 use crate::{apart, because, by, by_both, hex, numbers, rows, status};
 use crate::{Call, Case, Lends, Operation, AREA_SAFETY, FIRST};
-use reference::frame::{self, Edition, Record};
-use reference::frame::{BROADCASTER, IDENTIFICATION, LATITUDE, LONGITUDE, UPDATE};
+use reference::frame::{self, Edition, Record, Tuner, IN_FRAME, VALUES};
+use reference::frame::{BROADCASTER, IDENTIFICATION, LATITUDE, LONGITUDE, REPAIRED, TUNER, UPDATE};
 
 pub(crate) const OPERATIONS: [Operation; 3] = [
     lending("frame_read", |call| {
-        match frame::read(call.edition(), &call.input) {
-            _ if call.values.len() != 19 => status(1, 0),
-            Ok((record, damage)) => {
+        match frame::read(call.edition(), Tuner::named(call.numbers[1]), &call.input) {
+            _ if call.values.len() != VALUES => status(1, 0),
+            Ok((record, differing)) => {
                 call.values = record.to_vec();
-                status(0, damage.repaired) + 65536 * u64::from(damage.differing)
+                65536 * u64::from(differing)
             }
             Err(number) => status(number, 0),
         }
@@ -60,6 +60,10 @@ pub(crate) fn cases() -> Vec<Case> {
             safety(),
         ),
         because(
+            "the record has the tuner that the reader is told, and the number of repaired places; a number that no tuner has is none",
+            by_both(&tuners()),
+        ),
+        because(
             "0 means warned: the areas at both ends, about Tokyo, and numbers that no area has",
             areas(),
         ),
@@ -83,12 +87,16 @@ fn bases() -> impl Iterator<Item = (&'static str, Record)> {
     rows(BASES).map(|[body, fields]| (body, record(fields)))
 }
 
+/// A record by the numbers that stand in its frame, which came from no tuner.
 pub(crate) fn record(text: &str) -> Record {
-    numbers(text).try_into().expect("19 numbers")
+    let fields: [u64; IN_FRAME] = numbers(text).try_into().expect("19 numbers");
+    let mut record = [0; VALUES];
+    record[..IN_FRAME].copy_from_slice(&fields);
+    record
 }
 
 /// How many bits each field has where it is free.
-const WIDTHS: [u32; 19] = [
+const WIDTHS: [u32; IN_FRAME] = [
     1, 1, 3, 2, 31, 1, 56, 1, 1, 9, 1, 1, 10, 1, 11, 10, 10, 11, 57,
 ];
 
@@ -133,7 +141,22 @@ fn each_field((body, base): (&'static str, Record)) -> Vec<Case> {
             ));
         }
     }
+    cases.extend(origins(&base).map(|(what, record)| write(format!("{body}{what}"), &record)));
     cases
+}
+
+/// Numbers of tuners, and more; and of repaired places, and more: the writer takes any.
+const ANY: [u64; 6] = [1, 2, 3, 255, 256, u64::MAX];
+
+/// A record with other origins, and what they are.
+pub(crate) fn origins(record: &Record) -> impl Iterator<Item = (String, Record)> + '_ {
+    let field = move |(field, name)| {
+        ANY.into_iter()
+            .map(move |value| (format!(", {name} {value}"), with(*record, field, value)))
+    };
+    [(TUNER, "tuner"), (REPAIRED, "repaired places")]
+        .into_iter()
+        .flat_map(field)
 }
 
 /// Each record with these identifications.
@@ -164,7 +187,7 @@ fn others() -> Vec<Case> {
     for n in [0, 25, 27] {
         cases.push(write(format!("place, a buffer of {n}"), &place).lent(&vec![0xFF; n]));
     }
-    for n in [0, 18, 20] {
+    for n in [0, 19, 20, 22] {
         cases.push(write(format!("a record of {n} numbers"), &vec![0; n]));
     }
     let warnings = (0..16).map(|n| [n / 4, n % 4, 0]);
@@ -178,7 +201,7 @@ fn others() -> Vec<Case> {
 
 /// A record that is 0 but for these.
 pub(crate) fn short_record(identification: u64, update: u64, broadcaster: u64) -> Record {
-    let mut record = [0; 19];
+    let mut record = [0; VALUES];
     record[IDENTIFICATION] = identification;
     record[UPDATE] = update;
     record[BROADCASTER] = broadcaster;
@@ -190,13 +213,13 @@ pub(crate) fn short_record(identification: u64, update: u64, broadcaster: u64) -
 /// Frames, each with what reading it answers by document 01's rules and examples, `-` where none is on record.
 const FRAMES: &str = "
 0000000000000000000000000000000000000000000000000000 | 3 .. | no pattern: all zero (example 10)
-1af7000000000000000000000000000000000000000000000000 | 0 0*19 | all areas: pattern 0 with all else zero (example 11)
-1af7000000000000000000000000000000000000000000000010 | 100 0*19 | all areas, B203 hit: the CRC is tested in the repaired word
-1af7400000000000000000000000000000000000000000000000 | 100 0*19 | all areas, B17 hit
-1af7000000000000000000000000004308c01100000000000000 | 800 0*19 | all areas, eight hits
+1af7000000000000000000000000000000000000000000000000 | 0 0*21 | all areas: pattern 0 with all else zero (example 11)
+1af7000000000000000000000000000000000000000000000010 | 0 0*20 1 | all areas, B203 hit: the CRC is tested in the repaired word
+1af7400000000000000000000000000000000000000000000000 | 0 0*20 1 | all areas, B17 hit
+1af7000000000000000000000000004308c01100000000000000 | 0 0*20 8 | all areas, eight hits
 1af7000000000000000000000000004308c01110000000000000 | 4 .. | nine hits
 1af7000000000000000000000000004308c01110114014404110 | 5 .. | CRC wrong in a clean code word, the generator
-9af7000000000000000000000000000000000000000000000000 | 0 1 0*18 | all areas with B0
+9af7000000000000000000000000000000000000000000000000 | 0 1 0*20 | all areas with B0
 0000000000000000000000000000000000000000000000000001 | 2 .. | a filler bit, before the pattern
 1af7000000000000000000000000000000000000000000000001 | 2 .. | a filler bit alone
 1af7040000000000000000000000dd3571e5e0074536075add60 | 5 .. | identification 4, the CRC wrong
@@ -205,8 +228,8 @@ const FRAMES: &str = "
 1af777ffffffff00bfffffffffff3e583d134b51523b875a54e0 | 7 .. | identification 7, update 2
 1af7000000000100070a0000000071fee4dcd9339873b730f150 | 8 .. | a place with B111 0, over its limits
 1af70a0000000ba58f0baea14709a335ac25ca42ddbf9efe2c30 | 9 .. | a place of latitude 901
-1af77fffffffffffffffffffffff698fbee80b006e0824cd3d10 | 0 0*2 7 0*14 7ff 0 | no information, broadcaster 2047
-1af70000000001001fffffffffffe43d0ff2f235a3cbf9db1c70 | 0 0*5 1 0*4 1 0*8 | a cancellation
+1af77fffffffffffffffffffffff698fbee80b006e0824cd3d10 | 0 0*2 7 0*14 7ff 0*3 | no information, broadcaster 2047
+1af70000000001001fffffffffffe43d0ff2f235a3cbf9db1c70 | 0 0*5 1 0*4 1 0*10 | a cancellation
 9af70a0000000ba58ac9aea147094cf61e307cb8e3e2d6661040 | - | place, with B0
 650893932c05a4fffeffffffffff8c1ebd699253f76e2e73da90 | - | pattern 1, one area
  | 1 .. | no bytes
@@ -218,15 +241,15 @@ const FRAMES: &str = "
 const DAMAGED_PATTERNS: &str = "
 5af7000000000000000000000000004308c01110000000000000 | 4 .. | one bit of the pattern and nine hits
 62f7000000000000000000000000004308c01110000000000000 | 3 .. | four bits of the pattern and nine hits
-5af7000000000000000000000000000000000000000000000000 | 10000 0*19 | all areas, B1 differs
-1af7800000000000000000000000000000000000000000000000 | 10000 0*19 | all areas, B16 differs
-6af7000000000000000000000000000000000000000000000000 | 30000 0*19 | all areas, B1 to B3 differ
-6af7000000000000000000000000004308c01100000000000000 | 30800 0*19 | all areas, B1 to B3 differ, eight hits
-eaf7000000000000000000000000000000000000000000000000 | 30000 1 0*18 | all areas with B0, B1 to B3 differ
+5af7000000000000000000000000000000000000000000000000 | 10000 0*21 | all areas, B1 differs
+1af7800000000000000000000000000000000000000000000000 | 10000 0*21 | all areas, B16 differs
+6af7000000000000000000000000000000000000000000000000 | 30000 0*21 | all areas, B1 to B3 differ
+6af7000000000000000000000000004308c01100000000000000 | 30000 0*20 8 | all areas, B1 to B3 differ, eight hits
+eaf7000000000000000000000000000000000000000000000000 | 30000 1 0*20 | all areas with B0, B1 to B3 differ
 62f7000000000000000000000000000000000000000000000000 | 3 .. | four bits from pattern 0
 650f000000000000000000000000000000000000000000000000 | 3 .. | four bits from pattern 1
-650b000000000000000000000000000000000000000000000000 | 30000 0 1 0*17 | three bits from pattern 1, all areas
-6508800000000000000000000000000000000000000000000000 | 0 0 1 0*17 | pattern 1 with all else zero
+650b000000000000000000000000000000000000000000000000 | 30000 0 1 0*19 | three bits from pattern 1, all areas
+6508800000000000000000000000000000000000000000000000 | 0 0 1 0*19 | pattern 1 with all else zero
 62f7000000000000000000000000000000000000000000000001 | 2 .. | a filler bit, and four bits from pattern 0
 ";
 
@@ -247,7 +270,7 @@ pub(crate) fn frame(name: &str) -> Vec<u8> {
 }
 
 fn read_case(what: impl Into<String>, frame: &[u8]) -> Case {
-    Case::new("frame_read", what).input(frame).values(19)
+    Case::new("frame_read", what).input(frame).values(VALUES)
 }
 
 /// What both editions answer alike; but what the writer wrote of area safety information is refused by the first.
@@ -276,9 +299,44 @@ fn read() -> Vec<Case> {
             cases.push(read_case(what, &frame));
         }
     }
-    for n in [0, 18, 20] {
+    for n in [0, 19, 20, 22] {
         let what = format!("a record of {n} numbers");
         cases.push(read_case(what, &frame("all areas")).values(n));
+    }
+    cases
+}
+
+// ---- the tuner that the reader is told
+
+/// Frames, and the last two numbers of what is read of them, told main and told spare.
+const TOLD: &str = "
+all areas: | .. 1 0 | .. 2 0
+all areas, B203 hit | .. 1*2 | .. 2 1
+all areas, eight hits | .. 1 8 | .. 2 8
+all areas, B1 to B3 differ, eight hits | .. 1 8 | .. 2 8
+no information | .. 1 0 | .. 2 0
+a cancellation | .. 1 0 | .. 2 0
+place, with B0 | .. 1 0 | .. 2 0
+nine hits | 4 .. | 4 ..
+25 bytes | 1 .. | 1 ..
+";
+
+/// Numbers that no tuner has.
+const NO_TUNER: [u64; 5] = [3, 255, 257, 65538, 0xFFFF_FFFF];
+
+fn tuners() -> Vec<Case> {
+    let case = |name: &str, tuner: u64| {
+        let what = format!("tuner {tuner} told: {name}");
+        read_case(what, &frame(name)).numbers(&[0, tuner])
+    };
+    let mut cases = vec![];
+    for [name, main, spare] in rows(TOLD) {
+        cases.push(case(name, 1).known("document 02, j)", main));
+        cases.push(case(name, 2).known("document 02, j)", spare));
+        cases.extend(NO_TUNER.map(|tuner| case(name, tuner)));
+    }
+    for name in ["area safety", "identification 6, eight hits"] {
+        cases.extend([1, 2, 3].map(|tuner| case(name, tuner)));
     }
     cases
 }
@@ -311,15 +369,15 @@ identification 13, which is 5 in three bits | 0*2 13 0*16 | 6:ff*26. | 6:ff*26.
 
 /// Frames, each with what reading it answers in the two editions.
 const SAFETY_FRAMES: &str = "
-1af705123456789abcdef01234563dee663d35a7819a35d06b00 | 6 .. | 0 0*2 5 0 91a2b3c 0*13 9abcdef0123456 | area safety
-1af70500000000000000000000004f521e5692041479a68c6810 | 6 .. | 0 0*2 5 0*16 | identification 5, all else zero
-1af71500000001000000000000001d6a7918b34f91c2e858c1b0 | 6 .. | 0 0*2 5 2 0*14 100000000000000 | identification 5, of the region B55 alone
-1af7150000000000000000000001c3a96c33089947f421c8f7a0 | 6 .. | 0 0*2 5 2 0*14 1 | identification 5, of the region B111 alone
-1af71efffffffffffffffffffffffbb60756ba98197b6583d440 | 6 .. | 0 0*2 6 3 7fffffff 0*13 1ffffffffffffff | identification 6, all ones
-e508952468acf00000000000000004eb1eb084b6b3c48181f5b0 | 6 .. | 0 1*2 5 2 12345678 0*14 | identification 5, pattern 1 with B0
-1af70e000007d0f0123456789abcb994d4f1264dd410673bf7d0 | 6 .. | 0 0*2 6 1 3e8 0*13 f0123456789abc | identification 6
-1af706000047d0f1123446789abdb994d4f1064d5410673bf7c0 | 6 .. | 800 0*2 6 1 3e8 0*13 f0123456789abc | identification 6, eight hits
-6af706000047d0f1123446789abdb994d4f1064d5410673bf7c0 | 6 .. | 30800 0*2 6 1 3e8 0*13 f0123456789abc | identification 6, eight hits, B1 to B3 differ
+1af705123456789abcdef01234563dee663d35a7819a35d06b00 | 6 .. | 0 0*2 5 0 91a2b3c 0*13 9abcdef0123456 0*2 | area safety
+1af70500000000000000000000004f521e5692041479a68c6810 | 6 .. | 0 0*2 5 0*18 | identification 5, all else zero
+1af71500000001000000000000001d6a7918b34f91c2e858c1b0 | 6 .. | 0 0*2 5 2 0*14 100000000000000 0*2 | identification 5, of the region B55 alone
+1af7150000000000000000000001c3a96c33089947f421c8f7a0 | 6 .. | 0 0*2 5 2 0*14 1 0*2 | identification 5, of the region B111 alone
+1af71efffffffffffffffffffffffbb60756ba98197b6583d440 | 6 .. | 0 0*2 6 3 7fffffff 0*13 1ffffffffffffff 0*2 | identification 6, all ones
+e508952468acf00000000000000004eb1eb084b6b3c48181f5b0 | 6 .. | 0 1*2 5 2 12345678 0*16 | identification 5, pattern 1 with B0
+1af70e000007d0f0123456789abcb994d4f1264dd410673bf7d0 | 6 .. | 0 0*2 6 1 3e8 0*13 f0123456789abc 0*2 | identification 6
+1af706000047d0f1123446789abdb994d4f1064d5410673bf7c0 | 6 .. | 0 0*2 6 1 3e8 0*13 f0123456789abc 0 8 | identification 6, eight hits
+6af706000047d0f1123446789abdb994d4f1064d5410673bf7c0 | 6 .. | 30000 0*2 6 1 3e8 0*13 f0123456789abc 0 8 | identification 6, eight hits, B1 to B3 differ
 1af706000047d0f1123446589abdb994d4f1064d5410673bf7c0 | 4 .. | 4 .. | identification 6, nine hits
 1af70500000000000000000000004f11169683140539b2cc2900 | 5 .. | 5 .. | identification 5, the CRC wrong
 1af70500000000000000000000004f521e5692041479a68c6811 | 2 .. | 2 .. | identification 5, a filler bit
@@ -343,7 +401,7 @@ fn safety() -> Vec<Case> {
 // ---- areas
 
 fn areas() -> Vec<Case> {
-    let tokyo = with([0; 19], frame::AREAS, (1 << 56) - 1 - (1 << 40));
+    let tokyo = with([0; VALUES], frame::AREAS, (1 << 56) - 1 - (1 << 40));
     let case = |what: &str, record: &[u64], area| {
         Case::new("warned", format!("{what}, area {area}"))
             .numbers(&[area])
@@ -352,16 +410,22 @@ fn areas() -> Vec<Case> {
     let mut cases = vec![];
     for area in [0, 14, 15, 16, 55] {
         let only = if area == 15 { "100" } else { "0" };
-        cases.push(case("all areas", &[0; 19], area).known("document 01, example 11", "100"));
+        cases.push(case("all areas", &[0; VALUES], area).known("document 01, example 11", "100"));
         cases.push(case("Tokyo alone", &tokyo, area).known("document 01: Tokyo is area 15", only));
     }
     for area in [56, 64, u64::MAX] {
-        cases.push(case("all areas", &[0; 19], area).known("there are 56 areas", "0"));
+        cases.push(case("all areas", &[0; VALUES], area).known("there are 56 areas", "0"));
         cases.push(case("Tokyo alone", &tokyo, area).known("there are 56 areas", "0"));
     }
     for (body, base) in bases() {
         cases.push(case(body, &base, 15));
     }
-    cases.push(case("a record of 18 numbers", &[0; 18], 15));
+    for n in [0, 19, 20, 22] {
+        cases.push(case(&format!("a record of {n} numbers"), &vec![0; n], 15));
+    }
+    for (what, record) in origins(&tokyo) {
+        let case = case(&format!("Tokyo alone{what}"), &record, 15);
+        cases.push(case.known("document 01: Tokyo is area 15", "100"));
+    }
     cases
 }

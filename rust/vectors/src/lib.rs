@@ -7,6 +7,7 @@ mod laying;
 mod places;
 mod reading;
 mod receiver;
+mod records;
 
 pub use reading::{Rows, ROWS};
 
@@ -20,7 +21,7 @@ pub struct Program {
     cases: fn() -> Vec<Case>,
 }
 
-pub const PROGRAMS: [Program; 6] = [
+pub const PROGRAMS: [Program; 7] = [
     Program {
         name: "test_codes",
         operations: &codes::OPERATIONS,
@@ -40,6 +41,11 @@ pub const PROGRAMS: [Program; 6] = [
         name: "test_receiver",
         operations: &receiver::OPERATIONS,
         cases: receiver::cases,
+    },
+    Program {
+        name: "test_records",
+        operations: &records::OPERATIONS,
+        cases: records::cases,
     },
     Program {
         name: "test_headers",

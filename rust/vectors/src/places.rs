@@ -1,7 +1,7 @@
 //! Reports and places.
-use crate::frames::{lending, record, record_of};
+use crate::frames::{lending, origins, record, record_of};
 use crate::{apart, because, by_both, numbers, rows, status, Call, Case, Operation};
-use reference::frame::{Edition, Record, DEPTH, IDENTIFICATION, SOUTH};
+use reference::frame::{Edition, Record, DEPTH, IDENTIFICATION, SOUTH, VALUES};
 use reference::place::{self, Place, Report};
 
 pub(crate) const OPERATIONS: [Operation; 5] = [
@@ -183,10 +183,14 @@ fn reports() -> Vec<Case> {
     for n in [0, 2, 4] {
         cases.push(report(&format!("a place of {n} doubles"), &place, 12.5, n));
     }
-    cases.push(case("a record of 18 numbers", &place[..18]));
+    for n in [0, 19, 20, 22] {
+        cases.push(case(&format!("a record of {n} numbers"), &vec![0; n]));
+    }
+    // where a record came from does not matter
+    cases.extend(origins(&place).map(|(what, record)| case(&format!("a place{what}"), &record)));
     cases.push(report(
         "all areas: a lent NaN stays one",
-        &[0; 19],
+        &[0; VALUES],
         f64::NAN,
         3,
     ));

@@ -1,6 +1,6 @@
 //! The programs over a row of frames whose output is made here: what reading frames answers, a line each, and the listing of the area safety edition.
 //! What the listing of the first edition has to write is not made here: it is held to the documents by hand.
-use reference::frame::{read, Edition};
+use reference::frame::{read, Edition, Tuner, IN_FRAME, REPAIRED};
 use reference::listing::listing;
 
 /// A program over a row of frames, the one whose input it is run on, and the lines that it has to write.
@@ -37,13 +37,11 @@ impl Rows {
 
 /// What reading frame n answers.
 fn reading(edition: Edition, n: usize, frame: &[u8]) -> String {
-    match read(edition, frame) {
-        Ok((record, damage)) => {
-            let fields = record.map(|value| value.to_string()).join(" ");
-            format!(
-                "{n} accepted {} {} {fields}\n",
-                damage.repaired, damage.differing
-            )
+    match read(edition, Tuner::None, frame) {
+        Ok((record, differing)) => {
+            let fields = record[..IN_FRAME].iter().map(u64::to_string);
+            let fields = fields.collect::<Vec<_>>().join(" ");
+            format!("{n} accepted {} {differing} {fields}\n", record[REPAIRED])
         }
         Err(number) => format!("{n} refused {number}\n"),
     }

@@ -111,7 +111,7 @@ fn captures(call: &Call) -> (&[u8], &[u8], u64) {
     (main, spare, call.numbers[1])
 }
 
-type Frame = [u8; 26];
+pub(crate) type Frame = [u8; 26];
 
 fn written(identification: u64, update: u64, broadcaster: u64) -> Frame {
     let record = short_record(identification, update, broadcaster);
@@ -328,13 +328,29 @@ fn turned(mut frame: Frame, n: usize) -> Frame {
     frame
 }
 
-/// Main's frame has synchronising bits that differ, three and four: the bytes that are handed out are those received.
-fn damaged_patterns() -> Vec<Case> {
+/// A frame with its first n bits of B24 and after turned over.
+pub(crate) fn hits(frame: &[u8], n: usize) -> Frame {
+    let mut hit: Frame = frame.try_into().expect("26 bytes");
+    for k in 0..n {
+        reference::flip_bit(&mut hit, 24 + k);
+    }
+    hit
+}
+
+/// Main's frame has synchronising bits that differ, three and four.
+pub(crate) fn damaged() -> [(Frame, Frame, String); 2] {
     let sent = written(0, 1, 0);
-    let mut cases = vec![];
-    for (n, source) in [(3, "1"), (4, "2")] {
-        let input = [turned(sent, n), sent].concat();
+    [3, 4].map(|n| {
         let what = format!("main's frame with {n} synchronising bits turned over");
+        (turned(sent, n), sent, what)
+    })
+}
+
+/// The bytes that are handed out are those received.
+fn damaged_patterns() -> Vec<Case> {
+    let mut cases = vec![];
+    for ((main, spare, what), source) in damaged().into_iter().zip(["1", "2"]) {
+        let input = [main, spare].concat();
         let case = |operation| {
             Case::new(operation, what.clone())
                 .numbers(&[26, 0])
@@ -349,8 +365,8 @@ fn damaged_patterns() -> Vec<Case> {
     cases
 }
 
-/// Captures of three frames each, cut to every pair of lengths, and asked for frames inside them and past them.
-fn tuners() -> Vec<Case> {
+/// Captures of three frames each, cut to every pair of lengths, and the numbers of frames inside them and past them.
+pub(crate) fn cut_captures() -> Vec<(Vec<u8>, Vec<u8>, u64)> {
     let main = [
         hit(written(0, 1, 0), 0),
         hit(written(1, 2, 0), 1),
@@ -359,13 +375,18 @@ fn tuners() -> Vec<Case> {
     .concat();
     let spare = [written(3, 0, 0), written(7, 0, 9), [0; 26]].concat();
     let lengths = [0, 25, 26, 51, 52, 78];
-    let mut cases = vec![];
+    let mut captures = vec![];
     for (m, s) in lengths.into_iter().flat_map(|m| lengths.map(|s| (m, s))) {
         for n in [0, 1, 2, 1 << 63, u64::MAX] {
-            cases.extend(asked(&main[..m], &spare[..s], n));
+            captures.push((main[..m].to_vec(), spare[..s].to_vec(), n));
         }
     }
-    cases
+    captures
+}
+
+fn tuners() -> Vec<Case> {
+    let asked = |(main, spare, n): (Vec<u8>, Vec<u8>, u64)| asked(&main, &spare, n);
+    cut_captures().into_iter().flat_map(asked).collect()
 }
 
 /// The three questions of frame n.
@@ -385,12 +406,29 @@ fn asked(main: &[u8], spare: &[u8], n: u64) -> [Case; 3] {
     ]
 }
 
-/// Pairs of frames: area safety information before a warning and after one, hit in eight places and in nine, refused in both editions.
-fn safety_tuners() -> Vec<Case> {
+/// Pairs of frames, and what they are.
+pub(crate) fn pairs() -> Vec<(Frame, Frame, String)> {
+    let pairs = safety_pairs().into_iter().enumerate();
+    pairs
+        .map(|(i, (main, spare, ..))| {
+            (
+                main,
+                spare,
+                format!("area safety information, pair {}", i + 1),
+            )
+        })
+        .collect()
+}
+
+/// Main's frame and spare's, and by each edition the tuner and the two numbers.
+type SafetyPair = (Frame, Frame, [&'static str; 2], [&'static str; 2]);
+
+/// Area safety information before a warning and after one, hit in eight places and in nine, refused in both editions.
+fn safety_pairs() -> [SafetyPair; 5] {
     let undefined: Frame = frame("identification 4, start/end 00")
         .try_into()
         .expect("26 bytes");
-    let pairs = [
+    [
         (written(5, 1, 0), written(0, 1, 0), ["2", "1"], ["6", "0"]),
         (written(0, 1, 0), written(6, 1, 0), ["1", "1"], ["600", "0"]),
         (
@@ -406,9 +444,12 @@ fn safety_tuners() -> Vec<Case> {
             ["604", "4"],
         ),
         (undefined, written(5, 3, 0), ["0", "2"], ["606", "6"]),
-    ];
+    ]
+}
+
+fn safety_tuners() -> Vec<Case> {
     let mut cases = vec![];
-    for (main, spare, sources, numbers) in pairs {
+    for (main, spare, sources, numbers) in safety_pairs() {
         let [source, both, part] = asked(&main, &spare, 0);
         cases.extend(apart(source, sources[0], sources[1]));
         cases.extend(apart(both, numbers[0], numbers[1]));
