@@ -24,11 +24,8 @@ pub fn frame_read(edition: u32, tuner: u32, frame: &[u8], values: &mut [u64]) ->
     if values.len() != VALUES {
         return abi::status(1, 0);
     }
-    match frame_reader::read(
-        abi_edition::edition_of(edition),
-        abi_tuner::tuner_of(tuner as u64),
-        frame,
-    ) {
+    let told = abi_tuner::tuner_of(tuner as u64);
+    match frame_reader::read(abi_edition::edition_of(edition), told, frame) {
         Reading::Accepted(message, differing) => {
             abi_record::put_record(message, values);
             accepted_status(differing)

@@ -7,8 +7,12 @@ use frame::FIELDS;
 use frame::Origin;
 use frame::Record;
 
-// How many values a record has.
+// How many values a record has, and where the two after its fields stand.
 pub const VALUES: usize = 21;
+
+const TUNER: usize = 19;
+
+const REPAIRED: usize = 20;
 
 // The values of a record.
 pub fn put_record(contents: Record, values: &mut [u64])
@@ -19,8 +23,8 @@ pub fn put_record(contents: Record, values: &mut [u64])
     abi::copy(&fields, &mut values[0..FIELDS]);
     let origin = contents.origin;
     let tuner = origin.tuner;
-    values[FIELDS] = abi_tuner::tuner_number(tuner) as u64;
-    values[FIELDS + 1] = origin.repaired as u64;
+    values[TUNER] = abi_tuner::tuner_number(tuner) as u64;
+    values[REPAIRED] = origin.repaired as u64;
 }
 
 // The record that has these values. No rule looks at where it came from: of the number of repaired places the low 8 bits are kept.
@@ -29,8 +33,8 @@ pub fn record_at(values: &[u64]) -> Record
     ensures { λ r. ⌜ r ≡ recordAt (now (values .entry)) ⌝ }
 {
     let origin = Origin {
-        tuner: abi_tuner::tuner_of(values[FIELDS]),
-        repaired: (values[FIELDS + 1] % 256) as u8,
+        tuner: abi_tuner::tuner_of(values[TUNER]),
+        repaired: (values[REPAIRED] % 256) as u8,
     };
     frame_fields::record_of(origin, &values[0..FIELDS])
 }

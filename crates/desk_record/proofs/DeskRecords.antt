@@ -12,7 +12,7 @@ use Rattle.bits.specs.Segment.{freeWidths}
 use Rattle.bits.specs.Refusal.{firstRefusal}
 use Rattle.bits.proofs.Refusal.{refusal-met}
 use Rattle.frame.specs.Identification.{classOf, isUndefined}
-use Rattle.frame.specs.Body.{row, layout}
+use Rattle.frame.specs.Body.{bodyOf, row, layout}
 use Rattle.frame.specs.Fields.{scatter, fields, fieldWidths, recordBody, tooWide, overLimit}
 use Rattle.frame.specs.Write.{Legal, recordTests, recordRefusal}
 use Rattle.frame.specs.declared.Edition.{Edition}
@@ -48,7 +48,7 @@ module _ (ed : Edition) (w : DeskWarning) where
     -- a warning's body is the place page
     body : classOf ed (w .identification) ≡ class.Warning → recordBody ed (placeRecord w f) ≡ PlacePage
     unfolding placeRecord
-    body e = rw e
+    body e = ap (λ (c : Class). bodyOf c 1 0) e
 
     fit : Fits w → Allowed f → Fit (fieldWidths PlacePage) (fields (placeRecord w f))
     unfolding row layout scatter fieldWidths freeWidths placeRecord

@@ -1,10 +1,12 @@
 -- `abi_frame::frame_read` meets its contract. Assumes nothing.
-use mathlib.Core.Path.{refl, sym, ap₂, _∙_}
+use mathlib.Core.Path.{_≡_, refl, sym, ap₂, _∙_}
 use denote.Ref.{now}
 use borrow.Author.Needs.{needs}
 use Rattle.frame.specs.declared.Edition.{Edition}
 use Rattle.frame.specs.declared.Tuner.{Tuner}
 use Rattle.frame.specs.Read.{readOf}
+use Rattle.abi_edition.specs.Edition.{editionOf}
+use Rattle.abi_tuner.specs.Tuner.{tunerOf}
 use Rattle.abi_frame.proofs.Cases.{read-wrong, read-accepted, read-refused}
 use Rattle.abi_frame.proofs.frame_read.Statement.{statement}
 use Rattle.abi_frame.proofs.frame_read.Tie as tie
@@ -47,21 +49,27 @@ returns-2 c =
     let put = c .before .before .before in
     let message = put .before .before .before in
     let read = message .before .before in
-    let tuner = read .before in
-    let edition = tuner .before in
-    let f = now (edition .before .before .before .before .args .frame) in
-    read-accepted _ _ _ _ (edition .before .if1 .left)
-    (sym (read .read .ensures ∙ ap₂ (λ (e : Edition) (t : Tuner). readOf e t f) (edition .edition-of .ensures) (tuner .tuner-of .ensures)) ∙ message .message .given .1)
+    let edition = read .before in
+    let tuner = edition .before in
+    let s = tuner .before .before .before .before .args in
+    let f = now (s .frame) in
+    let named : edition .edition-of .result ≡ editionOf (s .edition) = edition .edition-of .ensures in
+    let told : tuner .tuner-of .result ≡ tunerOf (s .tuner) = tuner .tuner-of .ensures in
+    read-accepted _ _ _ _ (tuner .before .if1 .left)
+    (sym (read .read .ensures ∙ ap₂ (λ (e : Edition) (t : Tuner). readOf e t f) named told) ∙ message .message .given .1)
     (c .accepted-status .ensures) (put .put-record .ensures)
 
 returns-3 : tie.Need-returns-3
 returns-3 c =
     let read = c .before .before .before .before in
-    let tuner = read .before in
-    let edition = tuner .before in
-    let f = now (edition .before .before .before .before .args .frame) in
-    read-refused _ _ _ _ (edition .before .if1 .left)
-    (sym (read .read .ensures ∙ ap₂ (λ (e : Edition) (t : Tuner). readOf e t f) (edition .edition-of .ensures) (tuner .tuner-of .ensures)) ∙ c .before .before .number .given .1)
+    let edition = read .before in
+    let tuner = edition .before in
+    let s = tuner .before .before .before .before .args in
+    let f = now (s .frame) in
+    let named : edition .edition-of .result ≡ editionOf (s .edition) = edition .edition-of .ensures in
+    let told : tuner .tuner-of .result ≡ tunerOf (s .tuner) = tuner .tuner-of .ensures in
+    read-refused _ _ _ _ (tuner .before .if1 .left)
+    (sym (read .read .ensures ∙ ap₂ (λ (e : Edition) (t : Tuner). readOf e t f) named told) ∙ c .before .before .number .given .1)
     (c .status2 .ensures) refl
 
 pub frame-read-spec : {M : Type 1} → statement M
@@ -70,8 +78,8 @@ frame-read-spec =
     (tie.spec
     status-requires
     returns
-    edition-of-requires
     tuner-of-requires
+    edition-of-requires
     read-requires
     enum-known-message
     put-record-requires

@@ -38,12 +38,6 @@ slice-write-values c = search needs
 cast-values-2 : tie.Need-cast-values-2
 cast-values-2 c = search needs
 
-add-values : tie.Need-add-values
-add-values c = search needs
-
-mul-values : tie.Need-mul-values
-mul-values c = search needs
-
 slice-write-values-2 : tie.Need-slice-write-values-2
 slice-write-values-2 c = rw length-set (omega arith)
 
@@ -72,8 +66,6 @@ put-record-spec =
     cast-values
     slice-write-values
     cast-values-2
-    add-values
-    mul-values
     slice-write-values-2
     same-length
     returns)

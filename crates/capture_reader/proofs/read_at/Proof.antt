@@ -1,5 +1,5 @@
 -- `capture_reader::read_at` meets its contract. Assumes nothing.
-use mathlib.Core.Path.{sym, ap, _∙_}
+use mathlib.Core.Path.{_≡_, sym, ap, _∙_}
 use native.Mathlib.Omega.{arith}
 use denote.Ref.{now}
 use borrow.Author.Needs.{needs}
@@ -17,7 +17,8 @@ read-requires c κs = search needs
 returns : tie.Need-returns
 returns c =
     let s = c .before .before .before .before .args in
-    c .read .ensures
+    let told : c .read .result ≡ readOf (s .edition) (s .tuner) (now (c .before .part .result)) = c .read .ensures in
+    told
     ∙ ap (readOf (s .edition) (s .tuner)) (c .before .part .ensures .0)
     ∙ sym (at-within (s .edition) (s .tuner) (now (s .capture)) (s .n) (omega arith))
 
