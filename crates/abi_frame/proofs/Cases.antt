@@ -16,7 +16,7 @@ use Rattle.frame.specs.declared.Record.{Record}
 use Rattle.frame.specs.declared.Tuner.{Tuner}
 use Rattle.frame.specs.declared.Reading.the-variants.{Accepted, Refused}
 use Rattle.abi.specs.Status.{statusOf}
-use Rattle.abi_frame.specs.Frame.{readingStatus, frameReadStatus, frameReadRecord, warnedStatus}
+use Rattle.abi_frame.specs.Frame.{frameReadStatus, frameReadRecord, warnedStatus}
 
 -- ---- reading: the status n and the buffer t
 

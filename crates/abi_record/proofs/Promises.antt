@@ -1,9 +1,9 @@
 -- The promises hold. Assumes nothing.
-use mathlib.Core.Path.{_≡_, refl, sym, ap, ap₂, _∙_}
-use mathlib.Core.List.{List, [], _∷_, _++_}
-use Prim.Native.Nat.{ℕ, _+_, _%_, _<_}
+use mathlib.Core.Path.{_≡_, refl, ap, ap₂, _∙_}
+use mathlib.Core.List.{List}
+use Prim.Native.Nat.{ℕ, _<_}
 use native.Mathlib.Omega.{arith}
-use lib.ListN.{length, getD, take}
+use lib.ListN.{length, take}
 use Rattle.frame.specs.Fields.{fieldCount, fields, noOrigin, recordFrom, SameFields}
 use Rattle.frame.specs.declared.Tuner.{Tuner}
 use Rattle.frame.specs.declared.Record.{Record}

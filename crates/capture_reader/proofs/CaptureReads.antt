@@ -1,12 +1,12 @@
 -- Frame n of two captures, read: the cases as the code comes to them. Assumes nothing.
 use mathlib.Core.Path.{_≡_, refl, sym, ap, ap₂, _∙_}
-use mathlib.Core.Bool.{Bool, true, false, cond}
+use mathlib.Core.Bool.{Bool, true, false}
 use mathlib.Core.Logic.{_≢_}
 use mathlib.Core.List.{List, []}
 use Prim.Native.Nat.{ℕ, _+_, _*_, _≤_, _<_}
 use native.Mathlib.Omega.{arith}
-use lib.Dec.{eqb, leb}
-use lib.ListN.{length, take, drop, length-take, length-drop}
+use lib.Dec.{leb}
+use lib.ListN.{length, drop, length-take, length-drop}
 use borrow.Author.Tests.{le-leb, lt-leb, leb-true, leb-false}
 use Rattle.frame.specs.Read.{frameRefusal, readOf, readingNumber}
 use Rattle.frame.specs.declared.Edition.{Edition}
@@ -17,7 +17,7 @@ use Rattle.frame.specs.declared.Reading.{Reading}
 use Rattle.frame.specs.declared.Reading.the-variants as reading
 use Rattle.frame.proofs.Readings.{accepted-judged}
 use Rattle.frame.proofs.Promises.{refused-read, demand2}
-use Rattle.capture.specs.Capture.{partAt, numberAt, numbersOf, bytesFrom, frameAt}
+use Rattle.capture.specs.Capture.{partAt, numberAt, numbersOf, bytesFrom}
 use Rattle.capture.proofs.Choice.{number-within, number-past, source-main, source-spare, source-none}
 use Rattle.capture_reader.specs.CaptureRead.{answered, captureReadOf, readingAt}
 use Rattle.capture_reader.specs.declared.CaptureReading.{CaptureReading}

@@ -1,10 +1,9 @@
 -- The promises hold. Assumes nothing.
 use mathlib.Core.Path.{_≡_, refl, sym, ap, _∙_, subst}
 use mathlib.Core.Logic.{_≢_}
-use mathlib.Core.List.{List, [], _∷_}
+use mathlib.Core.List.{List, []}
 use Prim.Native.Nat.{ℕ}
 use native.Mathlib.Omega.{arith}
-use lib.ListN.{length}
 use lib.Seq.{take-all}
 use Rattle.frame.specs.Read.{readOf}
 use Rattle.frame.specs.Write.{frameOf}
@@ -17,11 +16,10 @@ use Rattle.frame.specs.declared.Reading.{Reading}
 use Rattle.frame.specs.declared.Reading.the-variants as reading
 use Rattle.frame.proofs.Frames.{length-frame}
 use Rattle.frame.proofs.Promises.{origins}
-use Rattle.capture.specs.Capture.{partAt, numberAt, numbersOf, sourceOf, bytesFrom, frameAt}
+use Rattle.capture.specs.Capture.{partAt, numberAt, sourceOf, frameAt}
 use Rattle.capture.proofs.Choice.{number-past, source-main, source-spare, Choice, by-main, by-spare, by-none, choice}
 use Rattle.capture_reader.specs.CaptureRead.{answered, captureReadOf, captureRefusals, readingAt}
 use Rattle.capture_reader.specs.Promises.{CaptureReads}
-use Rattle.capture_reader.specs.declared.CaptureReading.{CaptureReading}
 use Rattle.capture_reader.specs.declared.CaptureReading.the-variants.{Accepted, Refused}
 use Rattle.capture_reader.proofs.CaptureReads.{at-accepted, at-refused, main-first, spare-otherwise, neither}
 

@@ -1,20 +1,19 @@
 -- The cases of making a record, and when it is legal. Assumes nothing.
 use mathlib.Core.Path.{_≡_, refl, sym, ap, _∙_, subst}
-use mathlib.Core.Bool.{Bool, true, false, true≢false, _||_}
+use mathlib.Core.Bool.{Bool, true, false, true≢false}
 use mathlib.Core.Logic.{_≢_}
 use mathlib.Core.List.{List, [], _∷_}
-use Prim.Native.Nat.{ℕ, _^_, _≤_, _<_}
+use Prim.Native.Nat.{ℕ, _^_, _<_}
 use native.Mathlib.Omega.{arith}
-use lib.Dec.{eqb, ltb}
-use borrow.Author.Tests.{eq-eqb, ne-eqb, eqb-true, eqb-false, le-ltb}
+use lib.ListN.{getD}
+use borrow.Author.Tests.{eq-eqb, ne-eqb, le-ltb}
 use Rattle.bits.specs.Layout.{Fit}
 use Rattle.bits.specs.Segment.{freeWidths}
-use Rattle.bits.specs.Refusal.{firstRefusal}
 use Rattle.bits.proofs.Refusal.{refusal-met}
 use Rattle.frame.specs.Identification.{classOf, isUndefined}
 use Rattle.frame.specs.Body.{bodyOf, row, layout}
 use Rattle.frame.specs.Fields.{scatter, fields, fieldWidths, recordBody, tooWide, overLimit}
-use Rattle.frame.specs.Write.{Legal, recordTests, recordRefusal}
+use Rattle.frame.specs.Write.{Legal, recordRefusal}
 use Rattle.frame.specs.declared.Edition.{Edition}
 use Rattle.frame.specs.declared.Class.{Class}
 use Rattle.frame.specs.declared.Class.the-variants as class
@@ -32,7 +31,6 @@ use Rattle.place.specs.declared.Conversion.the-variants as conversion
 use Rattle.desk_record.specs.DeskRecord.{placeRecord, judged, madeOf, deskRecordOf}
 use Rattle.desk_record.specs.Promises.{Fits}
 use Rattle.desk_record.specs.declared.DeskWarning.{DeskWarning}
-use Rattle.desk_record.specs.declared.DeskRecord.{DeskRecord}
 use Rattle.desk_record.specs.declared.DeskRecord.the-variants.{Made, Refused}
 
 module _ (ed : Edition) (w : DeskWarning) where
@@ -79,20 +77,22 @@ module _ (ed : Edition) (w : DeskWarning) where
           limits = ap (λ (b : Body). overLimit b (f .latitude) (f .longitude)) (body c) ∙ limits a;
         })
 
-    -- the page is not left free but by a warning
+    -- page 1 is refused where the body does not have it
+    no-page : (b : Body) → recordBody ed (placeRecord w f) ≡ b → getD (fieldWidths b) 5 0 ≡ 0 → Legal ed (placeRecord w f) → ⊥
+    unfolding placeRecord
+    no-page b e n l =
+        let r = placeRecord w f in
+        let page : 1 < 2 ^ getD (fieldWidths b) 5 0 =
+        fit-at (fieldWidths b) (fields r) (subst (λ (x : Body). Fit (fieldWidths x) (fields r)) e (legal-sound ed r l .fit)) 5 in
+        let none : 1 < 2 ^ 0 = subst (λ (k : ℕ). 1 < 2 ^ k) n page in
+        omega arith
+
+    -- so it is a warning's
     class-legal : (c : Class) → classOf ed (w .identification) ≡ c → Legal ed (placeRecord w f) → c ≡ class.Warning
     unfolding row layout scatter fieldWidths freeWidths placeRecord
     class-legal class.Warning e l = refl
-    class-legal class.SafetyInformation e l =
-        let s = legal-sound ed (placeRecord w f) l .fit in
-        let b : recordBody ed (placeRecord w f) ≡ SafetyDetails = rw e in
-        let page : 1 < 1 = fit-at (fieldWidths SafetyDetails) (fields (placeRecord w f)) (subst (λ (b : Body). Fit (fieldWidths b) (fields (placeRecord w f))) b s) 5 in
-        absurd (omega arith)
-    class-legal class.Silent e l =
-        let s = legal-sound ed (placeRecord w f) l .fit in
-        let b : recordBody ed (placeRecord w f) ≡ NoInformation = rw e in
-        let page : 1 < 1 = fit-at (fieldWidths NoInformation) (fields (placeRecord w f)) (subst (λ (b : Body). Fit (fieldWidths b) (fields (placeRecord w f))) b s) 5 in
-        absurd (omega arith)
+    class-legal class.SafetyInformation e l = absurd (no-page SafetyDetails (rw e) refl l)
+    class-legal class.Silent e l = absurd (no-page NoInformation (rw e) refl l)
     class-legal class.Undefined e l = absurd (true≢false (sym (ap isUndefined e) ∙ legal-sound ed (placeRecord w f) l .known))
 
     pub legal-body : Legal ed (placeRecord w f) → recordBody ed (placeRecord w f) ≡ PlacePage

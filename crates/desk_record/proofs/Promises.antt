@@ -22,7 +22,6 @@ use Rattle.report.proofs.Promises.{reports}
 use Rattle.desk_record.specs.DeskRecord.{placeRecord, judged, madeOf, deskRecordOf, deskRecordNumber}
 use Rattle.desk_record.specs.Promises.{Fits, MadeOf, DeskRecords}
 use Rattle.desk_record.specs.declared.DeskWarning.{DeskWarning}
-use Rattle.desk_record.specs.declared.DeskRecord.{DeskRecord}
 use Rattle.desk_record.specs.declared.DeskRecord.the-variants.{Made, Refused}
 use Rattle.desk_record.proofs.DeskRecords.{judged-legal, judged-refused, fits-legal, legal-fits, legal-body, not-nine}
 
