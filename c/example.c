@@ -25,13 +25,13 @@ int main(int argc, char **argv)
     uint64_t record[GVZ_FRAME_VALUES];
     double place[GVZ_PLACE_VALUES];
     size_t got = fread(frame, 1, sizeof frame, stdin);
-    uint32_t status = gvz_frame_read(edition, frame, got, record, GVZ_FRAME_VALUES);
+    uint32_t status = gvz_frame_read(edition, GVZ_TUNER_NONE, frame, got, record, GVZ_FRAME_VALUES);
     if (GVZ_REFUSAL(status) != GVZ_REFUSAL_NONE) {
         printf("refused %u\n", (unsigned)GVZ_REFUSAL(status));
         return 1;
     }
     printf("identification %u, update %u, %u places repaired, %u synchronising bits differed\n",
-        (unsigned)record[GVZ_RECORD_IDENTIFICATION], (unsigned)record[GVZ_RECORD_UPDATE], (unsigned)GVZ_REPAIRED(status),
+        (unsigned)record[GVZ_RECORD_IDENTIFICATION], (unsigned)record[GVZ_RECORD_UPDATE], (unsigned)record[GVZ_RECORD_REPAIRED],
         (unsigned)GVZ_SYNC_BITS(status));
     status = gvz_report(edition, record, GVZ_FRAME_VALUES, place, GVZ_PLACE_VALUES);
     if (GVZ_REFUSAL(status) != GVZ_REFUSAL_NONE) {

@@ -1,6 +1,6 @@
 /* Calls every function that include/gvozdyana.h declares, on what is accepted and on what is refused, and compares the answers and the
- * buffers. What the editions answer alike is asked by each of them, and by numbers that no edition has. Exits with 0 only if all are as
- * expected. */
+ * buffers. What the editions answer alike is asked by each of them, and by numbers that no edition has; every frame is read as each tuner's, and as
+ * that of numbers that no tuner has. Exits with 0 only if all are as expected. */
 #include "gvozdyana.h"
 
 #include <stdio.h>
@@ -22,6 +22,24 @@ static const char CLEAN_WRONG_CRC[] = "1af7000000000000000000000000004308c011101
 /* The editions, and numbers that are taken for the first; the last two are area safety in their low bits alone. */
 static const uint32_t EDITIONS[] = {GVZ_EDITION_FIRST, GVZ_EDITION_AREA_SAFETY, 2, 0xFFFFFFFF, 257, 65537};
 enum { NUMBERS = sizeof EDITIONS / sizeof *EDITIONS };
+
+/* What the reader is told, and the tuner that the record then holds: numbers that no tuner has are taken for none, also those that are one in
+ * their low bits. */
+static const struct {
+    uint32_t told;
+    uint64_t held;
+} TUNERS[] = {
+    {GVZ_TUNER_NONE, 0}, {GVZ_TUNER_MAIN, 1}, {GVZ_TUNER_SPARE, 2}, {3, 0}, {255, 0}, {257, 0}, {65538, 0}, {UINT32_MAX, 0},
+};
+enum { TOLD = sizeof TUNERS / sizeof *TUNERS };
+
+/* What a record may hold as tuner and as repaired places where no rule looks at them. */
+static const uint64_t ANY[] = {0, 1, 2, 3, 8, 9, 77, 255, 256, UINT64_MAX};
+enum { ANYTHING = sizeof ANY / sizeof *ANY };
+
+/* The lengths beside GVZ_FRAME_VALUES; the first two are those of earlier records. */
+static const size_t OTHER_LENGTHS[] = {18, 19, 20, 22};
+enum { LENGTHS = sizeof OTHER_LENGTHS / sizeof *OTHER_LENGTHS };
 
 static int failures = 0;
 
@@ -115,7 +133,7 @@ static void test_repair(void)
 }
 
 /* The record of PLACE, a test: 35.6 south, 139.7 west, 40 km. */
-static const uint64_t place_record[GVZ_FRAME_VALUES] = {1, 0, 2, 1, 5, 1, 0, 1, 0, 300, 0, 1, 356, 1, 1397, 40, 900, 0, 0};
+static const uint64_t place_record[GVZ_FRAME_VALUES] = {1, 0, 2, 1, 5, 1, 0, 1, 0, 300, 0, 1, 356, 1, 1397, 40, 900, 0, 0, 0, 0};
 
 /* The record of AREA_SAFETY. */
 static const uint64_t safety_record[GVZ_FRAME_VALUES] = {
@@ -124,16 +142,31 @@ static const uint64_t safety_record[GVZ_FRAME_VALUES] = {
     [GVZ_RECORD_REGION] = 0x9ABCDEF0123456,
 };
 
-/* Of 20 values that hold 7 the first 19 are left as `record`, if it is not NULL, and the rest as they were. */
+/* The record with so many repaired places. */
+static const uint64_t *repaired(const uint64_t *record, uint64_t places)
+{
+    static uint64_t changed[GVZ_FRAME_VALUES];
+    memcpy(changed, record, sizeof changed);
+    changed[GVZ_RECORD_REPAIRED] = places;
+    return changed;
+}
+
+/* Of 24 values that hold 7 the first 21 are left as `record` with the tuner told, if it is not NULL, and the rest as they were. */
 static void expect_frame_read_by(uint32_t edition, const char *what, const char *digits, size_t frame_len, size_t record_len,
     uint32_t status, const uint64_t *record)
 {
-    uint64_t left[20], expected[20];
-    for (int i = 0; i < 20; i++) {
-        left[i] = 7;
-        expected[i] = record != NULL && i < GVZ_FRAME_VALUES ? record[i] : 7;
+    for (int t = 0; t < TOLD; t++) {
+        uint64_t left[24], expected[24];
+        for (int i = 0; i < 24; i++) {
+            left[i] = 7;
+            expected[i] = record != NULL && i < GVZ_FRAME_VALUES ? record[i] : 7;
+        }
+        if (record != NULL) {
+            expected[GVZ_RECORD_TUNER] = TUNERS[t].held;
+        }
+        expect_left(what, gvz_frame_read(edition, TUNERS[t].told, frame_of(digits), frame_len, left, record_len), status, left, expected,
+            sizeof left);
     }
-    expect_left(what, gvz_frame_read(edition, frame_of(digits), frame_len, left, record_len), status, left, expected, sizeof left);
 }
 
 /* The same by every edition. */
@@ -155,28 +188,51 @@ static void test_frame_read(void)
     nothing[GVZ_RECORD_BROADCASTER] = 2047;
     pattern_1[GVZ_RECORD_PATTERN] = 1;
 
-    expect_frame_read("all areas", ALL_AREAS, 26, 19, 0, zeros);
-    expect_frame_read("one hit", ONE_HIT, 26, 19, 1 << 8, zeros);
-    expect_frame_read("three synchronising bits and eight hits", THREE_SYNC_BITS, 26, 19, (3 << 16) + (8 << 8), zeros);
-    expect_frame_read("13 bits from pattern 0", "650b000000000000000000000000000000000000000000000000", 26, 19, 3 << 16, pattern_1);
-    expect_frame_read("one synchronising bit and nine hits: the number alone", "5af7000000000000000000000000004308c01110000000000000", 26, 19,
+    expect_frame_read("all areas", ALL_AREAS, 26, 21, 0, zeros);
+    expect_frame_read("one hit", ONE_HIT, 26, 21, 0, repaired(zeros, 1));
+    expect_frame_read("three synchronising bits and eight hits", THREE_SYNC_BITS, 26, 21, 3 << 16, repaired(zeros, 8));
+    expect_frame_read("13 bits from pattern 0", "650b000000000000000000000000000000000000000000000000", 26, 21, 3 << 16, pattern_1);
+    expect_frame_read("one synchronising bit and nine hits: the number alone", "5af7000000000000000000000000004308c01110000000000000", 26, 21,
         GVZ_REFUSAL_BEYOND_REPAIR, NULL);
-    expect_frame_read("four bits from pattern 0", "62f7000000000000000000000000000000000000000000000000", 26, 19, GVZ_REFUSAL_NO_PATTERN, NULL);
-    expect_frame_read("four bits from pattern 1", "650f000000000000000000000000000000000000000000000000", 26, 19, GVZ_REFUSAL_NO_PATTERN, NULL);
-    expect_frame_read("a cancellation", CANCELLATION, 26, 19, 0, cancellation);
-    expect_frame_read("no information", NO_INFORMATION, 26, 19, 0, nothing);
-    expect_frame_read("a place", PLACE, 26, 19, 0, place_record);
-    expect_frame_read("25 bytes", ALL_AREAS, 25, 19, GVZ_REFUSAL_WRONG_LENGTH, NULL);
-    expect_frame_read("filler", "1af7000000000000000000000000000000000000000000000001", 26, 19, GVZ_REFUSAL_FILLER_SET, NULL);
-    expect_frame_read("no pattern", "0000000000000000000000000000000000000000000000000000", 26, 19, GVZ_REFUSAL_NO_PATTERN, NULL);
-    expect_frame_read("nine hits", NINE_HITS, 26, 19, GVZ_REFUSAL_BEYOND_REPAIR, NULL);
-    expect_frame_read("CRC", CLEAN_WRONG_CRC, 26, 19, GVZ_REFUSAL_FRAME_CRC, NULL);
-    expect_frame_read("identification 4", "1af7640000000000000000000000dd6ba7e8239c630ae7c28140", 26, 19, GVZ_REFUSAL_IDENTIFICATION, NULL);
-    expect_frame_read("update 2 of 7", "1af777ffffffff00bfffffffffff3e583d134b51523b875a54e0", 26, 19, GVZ_REFUSAL_START_END_OR_UPDATE, NULL);
-    expect_frame_read("B111", "1af7000000000100070a0000000071fee4dcd9339873b730f150", 26, 19, GVZ_REFUSAL_FIXED_BIT, NULL);
-    expect_frame_read("latitude 901", "1af70a0000000ba58f0baea14709a335ac25ca42ddbf9efe2c30", 26, 19, GVZ_REFUSAL_OVER_LIMIT, NULL);
-    expect_frame_read("a record of 18", ALL_AREAS, 26, 18, GVZ_REFUSAL_WRONG_LENGTH, NULL);
-    expect_frame_read("a record of 20", ALL_AREAS, 26, 20, GVZ_REFUSAL_WRONG_LENGTH, NULL);
+    expect_frame_read("four bits from pattern 0", "62f7000000000000000000000000000000000000000000000000", 26, 21, GVZ_REFUSAL_NO_PATTERN, NULL);
+    expect_frame_read("four bits from pattern 1", "650f000000000000000000000000000000000000000000000000", 26, 21, GVZ_REFUSAL_NO_PATTERN, NULL);
+    expect_frame_read("a cancellation", CANCELLATION, 26, 21, 0, cancellation);
+    expect_frame_read("no information", NO_INFORMATION, 26, 21, 0, nothing);
+    expect_frame_read("a place", PLACE, 26, 21, 0, place_record);
+    expect_frame_read("25 bytes", ALL_AREAS, 25, 21, GVZ_REFUSAL_WRONG_LENGTH, NULL);
+    expect_frame_read("filler", "1af7000000000000000000000000000000000000000000000001", 26, 21, GVZ_REFUSAL_FILLER_SET, NULL);
+    expect_frame_read("no pattern", "0000000000000000000000000000000000000000000000000000", 26, 21, GVZ_REFUSAL_NO_PATTERN, NULL);
+    expect_frame_read("nine hits", NINE_HITS, 26, 21, GVZ_REFUSAL_BEYOND_REPAIR, NULL);
+    expect_frame_read("CRC", CLEAN_WRONG_CRC, 26, 21, GVZ_REFUSAL_FRAME_CRC, NULL);
+    expect_frame_read("identification 4", "1af7640000000000000000000000dd6ba7e8239c630ae7c28140", 26, 21, GVZ_REFUSAL_IDENTIFICATION, NULL);
+    expect_frame_read("update 2 of 7", "1af777ffffffff00bfffffffffff3e583d134b51523b875a54e0", 26, 21, GVZ_REFUSAL_START_END_OR_UPDATE, NULL);
+    expect_frame_read("B111", "1af7000000000100070a0000000071fee4dcd9339873b730f150", 26, 21, GVZ_REFUSAL_FIXED_BIT, NULL);
+    expect_frame_read("latitude 901", "1af70a0000000ba58f0baea14709a335ac25ca42ddbf9efe2c30", 26, 21, GVZ_REFUSAL_OVER_LIMIT, NULL);
+    for (int i = 0; i < LENGTHS; i++) {
+        expect_frame_read("a record of another length", ALL_AREAS, 26, OTHER_LENGTHS[i], GVZ_REFUSAL_WRONG_LENGTH, NULL);
+    }
+}
+
+/* Up to eight places hit and up to three of B1 to B16 turned over: the places stand in the record alone, and the bits in the status alone. */
+static void test_damage(void)
+{
+    static const uint8_t turned_over[] = {0, 0x10, 0x30, 0x70};
+    for (unsigned hits = 0; hits <= 8; hits++) {
+        for (unsigned differing = 0; differing <= 3; differing++) {
+            for (int t = 0; t < TOLD; t++) {
+                uint8_t frame[GVZ_FRAME_BYTES];
+                uint64_t record[GVZ_FRAME_VALUES], expected[GVZ_FRAME_VALUES] = {0};
+                set_places(frame, hits);
+                frame[0] = 0x1A ^ turned_over[differing];
+                frame[1] = 0xF7;
+                expected[GVZ_RECORD_TUNER] = TUNERS[t].held;
+                expected[GVZ_RECORD_REPAIRED] = hits;
+                uint32_t status = gvz_frame_read(GVZ_EDITION_FIRST, TUNERS[t].told, frame, 26, record, 21);
+                expect_left("damage", status, 65536 * differing, record, expected, sizeof record);
+                expect("the parts of its status", GVZ_REFUSAL(status) == 0 && GVZ_REPAIRED(status) == 0 && GVZ_SYNC_BITS(status) == differing);
+            }
+        }
+    }
 }
 
 /* Area safety information, which the first edition refuses: what its own edition answers. */
@@ -184,9 +240,9 @@ static void expect_safety_read(const char *what, const char *digits, uint32_t st
 {
     for (int i = 0; i < NUMBERS; i++) {
         if (EDITIONS[i] == GVZ_EDITION_AREA_SAFETY) {
-            expect_frame_read_by(EDITIONS[i], what, digits, 26, 19, status, record);
+            expect_frame_read_by(EDITIONS[i], what, digits, 26, 21, status, record);
         } else {
-            expect_frame_read_by(EDITIONS[i], what, digits, 26, 19, GVZ_REFUSAL_IDENTIFICATION, NULL);
+            expect_frame_read_by(EDITIONS[i], what, digits, 26, 21, GVZ_REFUSAL_IDENTIFICATION, NULL);
         }
     }
 }
@@ -207,18 +263,18 @@ static void test_safety_read(void)
     highest[GVZ_RECORD_REGION] = UINT64_C(1) << 56;
 
     expect_safety_read("area safety", AREA_SAFETY, 0, safety_record);
-    expect_safety_read("its test, eight hits", AREA_SAFETY_TEST, 8 << 8, test);
+    expect_safety_read("its test, eight hits", AREA_SAFETY_TEST, 0, repaired(test, 8));
     expect_safety_read("its test, all ones", "1af71efffffffffffffffffffffffbb60756ba98197b6583d440", 0, ones);
     expect_safety_read("B55 belongs to the region", "1af71500000001000000000000001d6a7918b34f91c2e858c1b0", 0, highest);
     expect_safety_read("start/end 11", "1af77d00000000000000000000004f79f17838e1e22a605242a0", GVZ_REFUSAL_START_END_OR_UPDATE, NULL);
-    expect_frame_read("a wrong CRC", "1af70500000000000000000000004f11169683140539b2cc2900", 26, 19, GVZ_REFUSAL_FRAME_CRC, NULL);
+    expect_frame_read("a wrong CRC", "1af70500000000000000000000004f11169683140539b2cc2900", 26, 21, GVZ_REFUSAL_FRAME_CRC, NULL);
 }
 
 /* A record with one field changed, written into 28 bytes that hold 0xA5. */
 static void expect_frame_write_by(uint32_t edition, const char *what, const uint64_t *before, int field, uint64_t value, size_t record_len,
     size_t frame_len, uint32_t status, const char *digits)
 {
-    uint64_t record[20] = {0};
+    uint64_t record[24] = {0};
     uint8_t left[28], expected[28];
     memcpy(record, before, GVZ_FRAME_VALUES * sizeof *before);
     record[field] = value;
@@ -241,17 +297,22 @@ static void expect_frame_write(const char *what, int field, uint64_t value, size
 
 static void test_frame_write(void)
 {
-    expect_frame_write("a place", GVZ_RECORD_TIME, 5, 19, 26, 0, PLACE);
-    expect_frame_write("identification 8", GVZ_RECORD_IDENTIFICATION, 8, 19, 26, GVZ_REFUSAL_IDENTIFICATION, NULL);
-    expect_frame_write("depth 1024", GVZ_RECORD_DEPTH, 1024, 19, 26, GVZ_REFUSAL_FIELD, NULL);
-    expect_frame_write("a broadcaster", GVZ_RECORD_BROADCASTER, 1, 19, 26, GVZ_REFUSAL_FIELD, NULL);
-    expect_frame_write("a region", GVZ_RECORD_REGION, 1, 19, 26, GVZ_REFUSAL_FIELD, NULL);
-    expect_frame_write("identification 4", GVZ_RECORD_IDENTIFICATION, 4, 19, 26, GVZ_REFUSAL_IDENTIFICATION, NULL);
-    expect_frame_write("longitude 1801", GVZ_RECORD_LONGITUDE, 1801, 19, 26, GVZ_REFUSAL_OVER_LIMIT, NULL);
-    expect_frame_write("a buffer of 25, before the record", GVZ_RECORD_IDENTIFICATION, 8, 19, 25, GVZ_REFUSAL_WRONG_LENGTH, NULL);
-    expect_frame_write("a buffer of 27", GVZ_RECORD_TIME, 5, 19, 27, GVZ_REFUSAL_WRONG_LENGTH, NULL);
-    expect_frame_write("a record of 18", GVZ_RECORD_TIME, 5, 18, 26, GVZ_REFUSAL_WRONG_LENGTH, NULL);
-    expect_frame_write("a record of 20", GVZ_RECORD_TIME, 5, 20, 26, GVZ_REFUSAL_WRONG_LENGTH, NULL);
+    expect_frame_write("a place", GVZ_RECORD_TIME, 5, 21, 26, 0, PLACE);
+    expect_frame_write("identification 8", GVZ_RECORD_IDENTIFICATION, 8, 21, 26, GVZ_REFUSAL_IDENTIFICATION, NULL);
+    expect_frame_write("depth 1024", GVZ_RECORD_DEPTH, 1024, 21, 26, GVZ_REFUSAL_FIELD, NULL);
+    expect_frame_write("a broadcaster", GVZ_RECORD_BROADCASTER, 1, 21, 26, GVZ_REFUSAL_FIELD, NULL);
+    expect_frame_write("a region", GVZ_RECORD_REGION, 1, 21, 26, GVZ_REFUSAL_FIELD, NULL);
+    expect_frame_write("identification 4", GVZ_RECORD_IDENTIFICATION, 4, 21, 26, GVZ_REFUSAL_IDENTIFICATION, NULL);
+    expect_frame_write("longitude 1801", GVZ_RECORD_LONGITUDE, 1801, 21, 26, GVZ_REFUSAL_OVER_LIMIT, NULL);
+    expect_frame_write("a buffer of 25, before the record", GVZ_RECORD_IDENTIFICATION, 8, 21, 25, GVZ_REFUSAL_WRONG_LENGTH, NULL);
+    expect_frame_write("a buffer of 27", GVZ_RECORD_TIME, 5, 21, 27, GVZ_REFUSAL_WRONG_LENGTH, NULL);
+    for (int i = 0; i < LENGTHS; i++) {
+        expect_frame_write("a record of another length", GVZ_RECORD_TIME, 5, OTHER_LENGTHS[i], 26, GVZ_REFUSAL_WRONG_LENGTH, NULL);
+    }
+    for (int i = 0; i < ANYTHING; i++) {
+        expect_frame_write("any tuner", GVZ_RECORD_TUNER, ANY[i], 21, 26, 0, PLACE);
+        expect_frame_write("any number of repaired places", GVZ_RECORD_REPAIRED, ANY[i], 21, 26, 0, PLACE);
+    }
 }
 
 /* safety_record with one field changed: its own edition answers this, and the first refuses the identification. */
@@ -259,9 +320,9 @@ static void expect_safety_write(const char *what, int field, uint64_t value, uin
 {
     for (int i = 0; i < NUMBERS; i++) {
         if (EDITIONS[i] == GVZ_EDITION_AREA_SAFETY) {
-            expect_frame_write_by(EDITIONS[i], what, safety_record, field, value, 19, 26, status, digits);
+            expect_frame_write_by(EDITIONS[i], what, safety_record, field, value, 21, 26, status, digits);
         } else {
-            expect_frame_write_by(EDITIONS[i], what, safety_record, field, value, 19, 26, GVZ_REFUSAL_IDENTIFICATION, NULL);
+            expect_frame_write_by(EDITIONS[i], what, safety_record, field, value, 21, 26, GVZ_REFUSAL_IDENTIFICATION, NULL);
         }
     }
 }
@@ -280,8 +341,64 @@ static void test_safety_write(void)
         memcpy(record, safety_record, sizeof record);
         record[GVZ_RECORD_UPDATE] = update;
         record[GVZ_RECORD_REGION] = past - 1;
-        expect("the largest region is written", gvz_frame_write(GVZ_EDITION_AREA_SAFETY, record, 19, frame, 26) == 0);
-        expect_left("and read", gvz_frame_read(GVZ_EDITION_AREA_SAFETY, frame, 26, again, 19), 0, again, record, sizeof record);
+        expect("the largest region is written", gvz_frame_write(GVZ_EDITION_AREA_SAFETY, record, 21, frame, 26) == 0);
+        expect_left("and read", gvz_frame_read(GVZ_EDITION_AREA_SAFETY, GVZ_TUNER_NONE, frame, 26, again, 21), 0, again, record,
+            sizeof record);
+    }
+}
+
+/* Every function that takes a record answers with any numbers for its tuner and its repaired places as with 0 there: here on one record that is
+ * legal in the edition, or refused with this number. */
+static void expect_any_origin(uint32_t edition, const char *what, const uint64_t *before, uint32_t number)
+{
+    uint8_t frame[GVZ_FRAME_BYTES], expected_frame[GVZ_FRAME_BYTES];
+    double place[GVZ_PLACE_VALUES], expected_place[GVZ_PLACE_VALUES];
+    memset(expected_frame, 0xA5, sizeof expected_frame);
+    memset(expected_place, 0, sizeof expected_place);
+    expect(what, gvz_frame_write(edition, before, 21, expected_frame, 26) == number);
+    uint32_t report = gvz_report(edition, before, 21, expected_place, 3);
+    expect(what, GVZ_REFUSAL(report) == number);
+    for (int i = 0; i < ANYTHING * ANYTHING; i++) {
+        uint64_t record[GVZ_FRAME_VALUES];
+        memcpy(record, before, sizeof record);
+        record[GVZ_RECORD_TUNER] = ANY[i / ANYTHING];
+        record[GVZ_RECORD_REPAIRED] = ANY[i % ANYTHING];
+        memset(frame, 0xA5, sizeof frame);
+        expect_left(what, gvz_frame_write(edition, record, 21, frame, 26), number, frame, expected_frame, sizeof frame);
+        memset(place, 0, sizeof place);
+        expect_left(what, gvz_report(edition, record, 21, place, 3), report, place, expected_place, sizeof place);
+        for (uint64_t area = 0; area <= GVZ_AREAS; area++) {
+            expect(what, gvz_warned(record, 21, area) == gvz_warned(before, 21, area));
+        }
+    }
+}
+
+/* Where a record came from: what the reader says of it, and that nothing else looks at it. */
+static void test_origin(void)
+{
+    const uint64_t zeros[GVZ_FRAME_VALUES] = {0};
+    uint64_t record[GVZ_FRAME_VALUES], again[GVZ_FRAME_VALUES];
+    uint8_t frame[GVZ_FRAME_BYTES];
+
+    memcpy(record, place_record, sizeof record);
+    record[GVZ_RECORD_TUNER] = GVZ_TUNER_SPARE;
+    record[GVZ_RECORD_REPAIRED] = 7;
+    expect("a place of spare, seven repaired, is written", gvz_frame_write(GVZ_EDITION_FIRST, record, 21, frame, 26) == 0);
+    record[GVZ_RECORD_TUNER] = GVZ_TUNER_MAIN;
+    record[GVZ_RECORD_REPAIRED] = 0;
+    expect_left("read as main's it has no repaired place, and all else is the same",
+        gvz_frame_read(GVZ_EDITION_FIRST, GVZ_TUNER_MAIN, frame, 26, again, 21), 0, again, record, sizeof again);
+
+    for (int i = 0; i < NUMBERS; i++) {
+        int has = EDITIONS[i] == GVZ_EDITION_AREA_SAFETY;
+        expect_any_origin(EDITIONS[i], "all areas of any origin", zeros, 0);
+        expect_any_origin(EDITIONS[i], "a place of any origin", place_record, 0);
+        expect_any_origin(EDITIONS[i], "area safety of any origin", safety_record, has ? 0 : GVZ_REFUSAL_IDENTIFICATION);
+        memcpy(record, place_record, sizeof record);
+        record[GVZ_RECORD_LATITUDE] = 901;
+        expect_any_origin(EDITIONS[i], "latitude 901 of any origin", record, GVZ_REFUSAL_OVER_LIMIT);
+        record[GVZ_RECORD_REGION] = 1;
+        expect_any_origin(EDITIONS[i], "a region of any origin", record, GVZ_REFUSAL_FIELD);
     }
 }
 
@@ -358,34 +475,35 @@ static void test_report(void)
     const double place[GVZ_PLACE_VALUES] = {-35.6, -139.7, 40.0}, minus_zero[GVZ_PLACE_VALUES] = {-0.0, -139.7, 40.0};
     uint64_t record[GVZ_FRAME_VALUES + 1] = {0};
 
-    expect_report("areas only", record, 19, 3, GVZ_REPORT_AREAS_ONLY << 8, NULL);
+    expect_report("areas only", record, 21, 3, GVZ_REPORT_AREAS_ONLY << 8, NULL);
     record[GVZ_RECORD_PAGE] = 1;
     record[GVZ_RECORD_KIND] = 1;
-    expect_report("a cancellation", record, 19, 3, GVZ_REPORT_CANCELLATION << 8, NULL);
+    expect_report("a cancellation", record, 21, 3, GVZ_REPORT_CANCELLATION << 8, NULL);
     memset(record, 0, sizeof record);
     record[GVZ_RECORD_IDENTIFICATION] = 7;
-    expect_report("nothing", record, 19, 3, GVZ_REPORT_NOTHING << 8, NULL);
+    expect_report("nothing", record, 21, 3, GVZ_REPORT_NOTHING << 8, NULL);
     record[GVZ_RECORD_UPDATE] = 1;
-    expect_report("an update where none is free", record, 19, 3, GVZ_REFUSAL_FIELD, NULL);
+    expect_report("an update where none is free", record, 21, 3, GVZ_REFUSAL_FIELD, NULL);
 
     memcpy(record, place_record, sizeof place_record);
-    expect_report("a place", record, 19, 3, GVZ_REPORT_PLACE << 8, place);
-    expect_report("a record of 18", record, 18, 3, GVZ_REFUSAL_WRONG_LENGTH, NULL);
-    expect_report("a record of 20", record, 20, 3, GVZ_REFUSAL_WRONG_LENGTH, NULL);
-    expect_report("a place of 2", record, 19, 2, GVZ_REFUSAL_WRONG_LENGTH, NULL);
-    expect_report("a place of 4", record, 19, 4, GVZ_REFUSAL_WRONG_LENGTH, NULL);
+    expect_report("a place", record, 21, 3, GVZ_REPORT_PLACE << 8, place);
+    for (int i = 0; i < LENGTHS; i++) {
+        expect_report("a record of another length", record, OTHER_LENGTHS[i], 3, GVZ_REFUSAL_WRONG_LENGTH, NULL);
+    }
+    expect_report("a place of 2", record, 21, 2, GVZ_REFUSAL_WRONG_LENGTH, NULL);
+    expect_report("a place of 4", record, 21, 4, GVZ_REFUSAL_WRONG_LENGTH, NULL);
     record[GVZ_RECORD_LATITUDE] = 0;
-    expect_report("a southern 0", record, 19, 3, GVZ_REPORT_PLACE << 8, minus_zero);
+    expect_report("a southern 0", record, 21, 3, GVZ_REPORT_PLACE << 8, minus_zero);
     record[GVZ_RECORD_LATITUDE] = 901;
-    expect_report("latitude 901", record, 19, 3, GVZ_REFUSAL_OVER_LIMIT, NULL);
+    expect_report("latitude 901", record, 21, 3, GVZ_REFUSAL_OVER_LIMIT, NULL);
     record[GVZ_RECORD_IDENTIFICATION] = 4;
-    expect_report("identification 4", record, 19, 3, GVZ_REFUSAL_IDENTIFICATION, NULL);
+    expect_report("identification 4", record, 21, 3, GVZ_REFUSAL_IDENTIFICATION, NULL);
 
     /* the proofs know one NaN, so that its bits are looked at here */
     double no_numbers[GVZ_PLACE_VALUES] = {double_of(0x7FF8000000000001), double_of(0xFFF0000000000002), double_of(0x7FF4000000000003)};
     double left[GVZ_PLACE_VALUES];
     memcpy(left, no_numbers, sizeof left);
-    expect_left("a refusal leaves the bits of a NaN", gvz_report(GVZ_EDITION_FIRST, record, 19, left, 3), GVZ_REFUSAL_IDENTIFICATION, left,
+    expect_left("a refusal leaves the bits of a NaN", gvz_report(GVZ_EDITION_FIRST, record, 21, left, 3), GVZ_REFUSAL_IDENTIFICATION, left,
         no_numbers, sizeof left);
 }
 
@@ -395,11 +513,11 @@ static void test_safety_report(void)
     for (int i = 0; i < NUMBERS; i++) {
         int has = EDITIONS[i] == GVZ_EDITION_AREA_SAFETY;
         memcpy(record, safety_record, sizeof record);
-        expect_report_by(EDITIONS[i], "area safety", record, 19, 3, has ? GVZ_REPORT_AREA_SAFETY << 8 : GVZ_REFUSAL_IDENTIFICATION, NULL);
+        expect_report_by(EDITIONS[i], "area safety", record, 21, 3, has ? GVZ_REPORT_AREA_SAFETY << 8 : GVZ_REFUSAL_IDENTIFICATION, NULL);
         record[GVZ_RECORD_IDENTIFICATION] = GVZ_IDENTIFICATION_AREA_SAFETY_TEST;
-        expect_report_by(EDITIONS[i], "its test", record, 19, 3, has ? GVZ_REPORT_AREA_SAFETY << 8 : GVZ_REFUSAL_IDENTIFICATION, NULL);
+        expect_report_by(EDITIONS[i], "its test", record, 21, 3, has ? GVZ_REPORT_AREA_SAFETY << 8 : GVZ_REFUSAL_IDENTIFICATION, NULL);
         record[GVZ_RECORD_PAGE] = 1;
-        expect_report_by(EDITIONS[i], "with a page", record, 19, 3, has ? GVZ_REFUSAL_FIELD : GVZ_REFUSAL_IDENTIFICATION, NULL);
+        expect_report_by(EDITIONS[i], "with a page", record, 21, 3, has ? GVZ_REFUSAL_FIELD : GVZ_REFUSAL_IDENTIFICATION, NULL);
     }
 }
 
@@ -530,12 +648,24 @@ static void test_captures(void)
 
     expect_capture("main", main_capture, 78, spare_capture, 78, 0, 0, GVZ_REFUSAL_FRAME_CRC, GVZ_TUNER_MAIN);
     expect_capture("spare", main_capture, 78, spare_capture, 78, 1, GVZ_REFUSAL_BEYOND_REPAIR, 0, GVZ_TUNER_SPARE);
-    expect_capture("neither", main_capture, 78, spare_capture, 78, 2, GVZ_REFUSAL_NO_PATTERN, GVZ_REFUSAL_FRAME_CRC, GVZ_TUNER_NEITHER);
+    expect_capture("neither", main_capture, 78, spare_capture, 78, 2, GVZ_REFUSAL_NO_PATTERN, GVZ_REFUSAL_FRAME_CRC, GVZ_TUNER_NONE);
     expect_capture("a main capture of 51 bytes", main_capture, 51, spare_capture, 52, 1, GVZ_REFUSAL_WRONG_LENGTH, 0, GVZ_TUNER_SPARE);
-    expect_capture("empty captures", main_capture, 0, spare_capture, 0, 0, GVZ_REFUSAL_WRONG_LENGTH, GVZ_REFUSAL_WRONG_LENGTH, GVZ_TUNER_NEITHER);
+    expect_capture("empty captures", main_capture, 0, spare_capture, 0, 0, GVZ_REFUSAL_WRONG_LENGTH, GVZ_REFUSAL_WRONG_LENGTH, GVZ_TUNER_NONE);
     expect_capture("26 n past 64 bits", main_capture, 78, spare_capture, 78, UINT64_C(1) << 63, GVZ_REFUSAL_WRONG_LENGTH, GVZ_REFUSAL_WRONG_LENGTH,
-        GVZ_TUNER_NEITHER);
-    expect_capture("the largest n", main_capture, 78, spare_capture, 78, UINT64_MAX, GVZ_REFUSAL_WRONG_LENGTH, GVZ_REFUSAL_WRONG_LENGTH, GVZ_TUNER_NEITHER);
+        GVZ_TUNER_NONE);
+    expect_capture("the largest n", main_capture, 78, spare_capture, 78, UINT64_MAX, GVZ_REFUSAL_WRONG_LENGTH, GVZ_REFUSAL_WRONG_LENGTH, GVZ_TUNER_NONE);
+
+    /* what the source answers is told to the reader */
+    uint64_t record[GVZ_FRAME_VALUES], expected[GVZ_FRAME_VALUES] = {0};
+    uint32_t tuner = gvz_capture_source(GVZ_EDITION_FIRST, main_capture, 78, spare_capture, 78, 0);
+    expected[GVZ_RECORD_TUNER] = GVZ_TUNER_MAIN;
+    expected[GVZ_RECORD_REPAIRED] = 8;
+    expect_left("main's frame, eight repaired", gvz_frame_read(GVZ_EDITION_FIRST, tuner, main_capture, 26, record, 21), 3 << 16, record, expected,
+        sizeof record);
+    tuner = gvz_capture_source(GVZ_EDITION_FIRST, main_capture, 78, spare_capture, 78, 1);
+    memcpy(expected, place_record, sizeof expected);
+    expected[GVZ_RECORD_TUNER] = GVZ_TUNER_SPARE;
+    expect_left("spare's frame", gvz_frame_read(GVZ_EDITION_FIRST, tuner, spare_capture + 26, 26, record, 21), 0, record, expected, sizeof record);
 }
 
 static void test_safety_captures(void)
@@ -549,7 +679,7 @@ static void test_safety_captures(void)
         expect_capture_by(EDITIONS[i], "main's", safety, 26, place, 26, 0, number, 0, has ? GVZ_TUNER_MAIN : GVZ_TUNER_SPARE);
         expect_capture_by(EDITIONS[i], "spare's", place, 26, safety, 26, 0, 0, number, GVZ_TUNER_MAIN);
         expect_capture_by(EDITIONS[i], "spare's alone", place, 25, safety, 26, 0, GVZ_REFUSAL_WRONG_LENGTH, number,
-            has ? GVZ_TUNER_SPARE : GVZ_TUNER_NEITHER);
+            has ? GVZ_TUNER_SPARE : GVZ_TUNER_NONE);
     }
 }
 
@@ -753,19 +883,22 @@ static void test_null(uint32_t edition)
 
     expect("no frame to repair", gvz_repair(NULL, 0, word, 26) == wrong_length && gvz_repair_register(NULL, 0, word, 26) == wrong_length);
     expect("no word", gvz_repair(frame, 26, NULL, 0) == wrong_length && gvz_repair_register(frame, 26, NULL, 0) == wrong_length);
-    expect("no frame to read", gvz_frame_read(edition, NULL, 0, record, 19) == wrong_length
-            && gvz_frame_read(edition, frame, 26, NULL, 0) == wrong_length);
-    expect("nothing at all", gvz_frame_read(edition, NULL, 0, NULL, 0) == wrong_length);
+    for (int t = 0; t < TOLD; t++) {
+        uint32_t tuner = TUNERS[t].told;
+        expect("no frame to read", gvz_frame_read(edition, tuner, NULL, 0, record, 21) == wrong_length
+                && gvz_frame_read(edition, tuner, frame, 26, NULL, 0) == wrong_length);
+        expect("nothing at all", gvz_frame_read(edition, tuner, NULL, 0, NULL, 0) == wrong_length);
+    }
     expect("no record to write", gvz_frame_write(edition, NULL, 0, word, 26) == wrong_length
-            && gvz_frame_write(edition, record, 19, NULL, 0) == wrong_length);
+            && gvz_frame_write(edition, record, 21, NULL, 0) == wrong_length);
     expect("no record to ask", gvz_warned(NULL, 0, 15) == wrong_length);
     expect("no record to report", gvz_report(edition, NULL, 0, place, 3) == wrong_length
-            && gvz_report(edition, record, 19, NULL, 0) == wrong_length);
+            && gvz_report(edition, record, 21, NULL, 0) == wrong_length);
     expect("no fields", gvz_desk(35.6, 139.7, 40.0, NULL, 0) == wrong_length);
     expect("no frame to follow", gvz_follow(edition, GVZ_STATE_REAL(2u), NULL, 0) == 1 + (GVZ_EVENT_REFUSED << 8) + (GVZ_STATE_REAL(2u) << 16));
     expect("no main capture", gvz_capture_source(edition, NULL, 0, frame, 26, 0) == GVZ_TUNER_SPARE);
     expect("no spare capture", gvz_capture_source(edition, frame, 26, NULL, 0, 0) == GVZ_TUNER_MAIN);
-    expect("no capture", gvz_capture_source(edition, NULL, 0, NULL, 0, 0) == GVZ_TUNER_NEITHER
+    expect("no capture", gvz_capture_source(edition, NULL, 0, NULL, 0, 0) == GVZ_TUNER_NONE
             && gvz_capture_numbers(edition, NULL, 0, NULL, 0, 0) == 257);
     expect("no header to read", gvz_header_read(NULL, 0, values, 145) == wrong_length && gvz_header_read(header, 188, NULL, 0) == wrong_length);
     expect("no header to write", gvz_header_write(NULL, 0, header, 188) == wrong_length && gvz_header_write(values, 145, NULL, 0) == wrong_length);
@@ -779,9 +912,11 @@ int main(void)
 {
     test_repair();
     test_frame_read();
+    test_damage();
     test_safety_read();
     test_frame_write();
     test_safety_write();
+    test_origin();
     test_warned();
     test_report();
     test_safety_report();

@@ -28,9 +28,9 @@ extern "C" {
 #endif
 
 #define GVZ_VERSION_MAJOR 0
-#define GVZ_VERSION_MINOR 4
+#define GVZ_VERSION_MINOR 5
 #define GVZ_VERSION_PATCH 0
-#define GVZ_VERSION "0.4.0"
+#define GVZ_VERSION "0.5.0"
 
 /* ---- Refusals */
 
@@ -78,12 +78,13 @@ enum gvz_refusal {
 
 /* The bytes of a frame, and the values of its record. */
 #define GVZ_FRAME_BYTES 26
-#define GVZ_FRAME_VALUES 19
+#define GVZ_FRAME_VALUES 21
 
 /* Areas are numbered from 0 to GVZ_AREAS - 1, in the order of the notice's schedule 2; 15 is Tokyo. */
 #define GVZ_AREAS 56
 
-/* The repaired places, 0 to 8, of a status of gvz_repair, gvz_repair_register and gvz_frame_read. */
+/* The repaired places, 0 to 8, of a status of gvz_repair and gvz_repair_register. Those of gvz_frame_read stand in the
+ * record, at GVZ_RECORD_REPAIRED: of its status this is 0. */
 #define GVZ_REPAIRED(status) ((status) >> 8 & 255u)
 
 /* How many bits of B1 to B16 differed from the pattern, 0 to 3, of a status of gvz_frame_read; they are not among the
@@ -103,6 +104,15 @@ enum gvz_edition {
     GVZ_EDITION_AREA_SAFETY = 1
 };
 
+/* The tuners: which one gvz_capture_source takes a frame from, which one gvz_frame_read is told, and which one a record
+ * holds. */
+enum gvz_tuner {
+    /* neither tuner, or none was told; a record made at the desk has it */
+    GVZ_TUNER_NONE = 0,
+    GVZ_TUNER_MAIN = 1,
+    GVZ_TUNER_SPARE = 2
+};
+
 /* What a frame announces, record[GVZ_RECORD_IDENTIFICATION]. 4 is undefined, and refused; so are 5 and 6 in the first
  * edition. */
 enum gvz_identification {
@@ -116,7 +126,8 @@ enum gvz_identification {
 };
 
 /* Where the fields stand in a record of GVZ_FRAME_VALUES, and how many bits each has. A field that identification,
- * page and kind do not leave free is 0: a record of zeros is a warning for ALL areas. */
+ * page and kind do not leave free is 0: a record of zeros is a warning for ALL areas. The last two stand in no frame:
+ * they say where the record came from. No rule looks at them, so any numbers may stand there. */
 enum gvz_record_index {
     /* 1 bit: B0, the differential reference, carried as it stands */
     GVZ_RECORD_REFERENCE = 0,
@@ -135,7 +146,7 @@ enum gvz_record_index {
     /* 56 bits: area 0 highest, and 0 MEANS WARNED. It means something only on page 0 of identification 0 to 3;
      * elsewhere it is 0 and nobody is warned. Ask gvz_warned, which looks at all of that. */
     GVZ_RECORD_AREAS = 6,
-    /* The rest but the last two: page 1 of identification 0 to 3 alone. */
+    /* From here to GVZ_RECORD_OCCURRED: page 1 of identification 0 to 3 alone. */
     /* 1 bit: how many places are being sent, 0 for one and 1 for two */
     GVZ_RECORD_TOTAL = 7,
     /* 1 bit: tells the places that are being sent apart; the notice gives its values no order */
@@ -159,7 +170,11 @@ enum gvz_record_index {
     /* 11 bits: the broadcaster number, of identification 7 alone */
     GVZ_RECORD_BROADCASTER = 17,
     /* 57 bits, B55 highest: the target region of identification 5 and 6 alone, carried as it stands */
-    GVZ_RECORD_REGION = 18
+    GVZ_RECORD_REGION = 18,
+    /* the tuner that the reader was told, an enum gvz_tuner; GVZ_TUNER_NONE in a record made at the desk */
+    GVZ_RECORD_TUNER = 19,
+    /* how many places of B17 to B203 the reader repaired, 0 to 8; 0 in a record made at the desk */
+    GVZ_RECORD_REPAIRED = 20
 };
 
 /* The repair asked for alone: looks at B17 to B203 of the frame. Returns a status: refuses 1, then 4; tells the
@@ -172,13 +187,17 @@ uint32_t gvz_repair(const uint8_t *frame, size_t frame_len, uint8_t *word, size_
 /* Returns the same by a second engine, which divides by a shift register bit by bit: slow, for comparison. */
 uint32_t gvz_repair_register(const uint8_t *frame, size_t frame_len, uint8_t *word, size_t word_len);
 
-/* Reads a frame into a record of GVZ_FRAME_VALUES, by the edition named. Returns a status: refuses 1 to 9; tells the
- * repaired places and the bits of B1 to B16 that differed, which the record does not hold: written again, the frame
- * has the clean pattern. */
-uint32_t gvz_frame_read(uint32_t edition, const uint8_t *frame, size_t frame_len, uint64_t *record, size_t record_len);
+/* Reads a frame into a record of GVZ_FRAME_VALUES, by the edition named. The tuner, an enum gvz_tuner, is told and goes
+ * into the record; it changes nothing else. Hand over what gvz_capture_source answered, or GVZ_TUNER_NONE where the
+ * frame came from no tuner; any other number is taken for none. Returns a status: refuses 1 to 9; tells the bits of B1
+ * to B16 that differed, GVZ_SYNC_BITS, which the record does not hold: written again, the frame has the clean pattern.
+ * The repaired places stand in the record. */
+uint32_t gvz_frame_read(uint32_t edition, uint32_t tuner, const uint8_t *frame, size_t frame_len, uint64_t *record,
+    size_t record_len);
 
-/* Writes a record of GVZ_FRAME_VALUES into a frame of GVZ_FRAME_BYTES, by the edition named. Returns a status: refuses
- * 1, then 6, 10, 9; tells nothing. */
+/* Writes a record of GVZ_FRAME_VALUES into a frame of GVZ_FRAME_BYTES, by the edition named; the tuner and the repaired
+ * places are not looked at. So the record, read again, has the tuner then told and no repaired place, and is the same
+ * in all else. Returns a status: refuses 1, then 6, 10, 9; tells nothing. */
 uint32_t gvz_frame_write(uint32_t edition, const uint64_t *record, size_t record_len, uint8_t *frame, size_t frame_len);
 
 /* Whether a record of GVZ_FRAME_VALUES warns an area: identification 0 to 3, page 0, and the area's bit is 0. Returns
@@ -260,16 +279,10 @@ uint32_t gvz_follow(uint32_t edition, uint32_t state, const uint8_t *frame, size
 
 /* ---- Two tuners */
 
-enum gvz_tuner {
-    GVZ_TUNER_NEITHER = 0,
-    GVZ_TUNER_MAIN = 1,
-    GVZ_TUNER_SPARE = 2
-};
-
 /* Which capture frame n, counted from 0, is taken from: main if it is accepted there by the edition named, otherwise
- * spare if it is accepted there. Returns an enum gvz_tuner and no status. The frame's bytes are the 26 from byte 26
- * n on of that capture, as received, damage included. Captures have any length, and a frame number past a capture is
- * not accepted there. */
+ * spare if it is accepted there. Returns an enum gvz_tuner, GVZ_TUNER_NONE where neither has it, and no status. The
+ * frame's bytes are the 26 from byte 26 n on of that capture, as received, damage included. Captures have any length,
+ * and a frame number past a capture is not accepted there. */
 uint32_t gvz_capture_source(uint32_t edition, const uint8_t *main_capture, size_t main_len,
     const uint8_t *spare_capture, size_t spare_len, uint64_t n);
 

@@ -12,6 +12,16 @@
 #define BY_FIRST GVZ_EDITION_FIRST,
 #endif
 
+/* From 0.5.0 on the reader is told a tuner, and the repaired places stand in the record; before, they stood in byte 1 of the status. They are put
+ * there again, so that the sums of any two versions are of the same. */
+#if GVZ_VERSION_MAJOR == 0 && GVZ_VERSION_MINOR < 5
+#define FROM_NONE
+#define REPAIRED_OF(record) 0u
+#else
+#define FROM_NONE GVZ_TUNER_NONE,
+#define REPAIRED_OF(record) (256u * (uint32_t)(record)[GVZ_RECORD_REPAIRED])
+#endif
+
 #define EACH(n, call) \
     uint32_t sum = 0; \
     for (int i = 0; i < (n); i++) { \
@@ -19,10 +29,17 @@
     } \
     return sum
 
+/* The status of a frame that is accepted, as all are here, with the repaired places in byte 1. */
+static uint32_t read_one(const uint8_t *frame, uint64_t *record)
+{
+    uint32_t status = gvz_frame_read(BY_FIRST FROM_NONE frame, 26, record, GVZ_FRAME_VALUES);
+    return status + REPAIRED_OF(record);
+}
+
 static uint32_t frame_read(struct inputs *in)
 {
-    uint64_t record[GVZ_FRAME_VALUES];
-    EACH(RECORDS, gvz_frame_read(BY_FIRST in->frames[i], 26, record, GVZ_FRAME_VALUES));
+    uint64_t record[GVZ_FRAME_VALUES] = {0};
+    EACH(RECORDS, read_one(in->frames[i], record));
 }
 
 static uint32_t frame_write(struct inputs *in)

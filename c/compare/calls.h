@@ -5,7 +5,7 @@
 #include <stdint.h>
 
 /* VALUES is as many as any version's record has; each takes its first GVZ_FRAME_VALUES. */
-enum { RECORDS = 500, HEADERS = 100, VALUES = 19, HEADER_VALUES = 145 };
+enum { RECORDS = 500, HEADERS = 100, VALUES = 21, HEADER_VALUES = 145 };
 
 struct inputs {
     uint64_t records[RECORDS][VALUES];
@@ -14,7 +14,7 @@ struct inputs {
     uint8_t header[188];
 };
 
-/* A stretch of calls. The sum of the statuses, so that no call is left out. */
+/* A stretch of calls. The sum of the statuses, so that no call is left out; a frame's repaired places are summed too, wherever the version has them. */
 typedef uint32_t stretch(struct inputs *);
 
 enum operation { READ, WRITE, REPORT, WARNED, FOLLOW, REPAIR, HEADER_READ, HEADER_WRITE, LAY_IN, TAKE_OUT, OPERATIONS };

@@ -19,7 +19,7 @@ static uint64_t below(uint64_t n)
     return (state >> 8) % n;
 }
 
-/* A legal record, by its fields in their order. */
+/* A legal record, by its fields in their order; it came from no tuner, and no place of it was repaired. */
 static void make_record(int body, uint64_t *r)
 {
     memset(r, 0, VALUES * sizeof *r);

@@ -1,5 +1,5 @@
 //! The listing program on a million clean frames, beside the same work called in a loop, and the plain version.
-use gvozdyana::{frame, Edition};
+use gvozdyana::{frame, Edition, Tuner};
 use samples::Random;
 use std::fs::File;
 use std::hint::black_box;
@@ -32,8 +32,8 @@ fn run(input: &Path) {
 fn looped(frames: &[u8]) {
     let mut text = Vec::new();
     for (n, piece) in frames.chunks(26).enumerate() {
-        match frame::read(Edition::First, piece) {
-            Ok(reading) => writeln!(text, "{} 0 {}", n + 1, reading.repaired),
+        match frame::read(Edition::First, Tuner::None, piece) {
+            Ok(reading) => writeln!(text, "{} 0 {}", n + 1, reading.record.repaired),
             Err(refusal) => writeln!(text, "{} {} -", n + 1, refusal.number()),
         }
         .expect("memory");

@@ -4,8 +4,8 @@ mod listing;
 
 use gvozdyana::frame::Record;
 use gvozdyana::header::Header;
-use gvozdyana::{frame, header, place, Edition};
-use plain::frame::Edition as PlainEdition;
+use gvozdyana::{frame, header, place, Edition, Tuner};
+use plain::frame::{Edition as PlainEdition, Tuner as PlainTuner};
 use reference as plain;
 use samples::records::{bodies, Body};
 use samples::{doubles, frames, headers, records, sent_and_hit, Random};
@@ -92,10 +92,15 @@ fn frame_rows(count: usize) {
             count,
             |random| legal_frame(hits, random),
             |bytes| {
-                black_box(frame::read(Edition::First, bytes)).ok();
+                black_box(frame::read(Edition::First, Tuner::Main, bytes)).ok();
             },
             |bytes| {
-                black_box(plain::frame::read(PlainEdition::First, bytes)).ok();
+                black_box(plain::frame::read(
+                    PlainEdition::First,
+                    PlainTuner::Main,
+                    bytes,
+                ))
+                .ok();
             },
         );
     }

@@ -4,7 +4,7 @@ use gvozdyana::follower::{Event, State, Update};
 use gvozdyana::frame::{self, Identification, Record, Warning};
 use gvozdyana::header::{self, Header};
 use gvozdyana::place::{report, Report};
-use gvozdyana::{Edition, Refusal};
+use gvozdyana::{Edition, Refusal, Tuner};
 
 fn main() -> Result<(), Refusal> {
     let warning = Warning {
@@ -17,12 +17,14 @@ fn main() -> Result<(), Refusal> {
     // On the way B71 is hit, which belongs to area 15, Tokyo.
     frame[8] ^= 0x01;
 
-    let reading = frame::read(Edition::First, &frame)?;
-    assert_eq!((reading.record, reading.repaired), (sent, 1));
-    for area in reading.record.warned_areas() {
+    // The main tuner received it.
+    let record = frame::read(Edition::First, Tuner::Main, &frame)?.record;
+    assert!(record.same_fields(&sent));
+    assert_eq!((record.tuner, record.repaired), (Tuner::Main, 1));
+    for area in record.warned_areas() {
         println!("area {area} is warned");
     }
-    assert_eq!(report(Edition::First, &reading.record)?, Report::AreasOnly);
+    assert_eq!(report(Edition::First, &record)?, Report::AreasOnly);
     let (state, event) = State::Quiet.follow(Edition::First, &frame);
     assert_eq!((state, event), (State::Real(warning.update), Event::Begins));
 

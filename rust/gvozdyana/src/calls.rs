@@ -1,7 +1,8 @@
 //! The exported functions as the archive has them, over numbers and slices. Each but [`capture_source`], [`capture_numbers`] and [`crc32`], which
 //! refuse nothing, returns a status: the refusal's number in the low 8 bits, 0 where nothing was refused, and above them what else it tells.
 //! A refusal leaves every buffer as it was, and a buffer of another length than the one named is refusal 1. The edition is a number: 0 the first, 1
-//! area safety, and any other is taken for the first. The other modules say the same with types.
+//! area safety, and any other is taken for the first. So is the tuner: 0 none, 1 main, 2 spare, and any other is taken for none. The other modules
+//! say the same with types.
 
 mod archive {
     extern "C" {
@@ -19,6 +20,7 @@ mod archive {
         ) -> u32;
         pub fn gvz_frame_read(
             edition: u32,
+            tuner: u32,
             frame: *const u8,
             frame_len: usize,
             record: *mut u64,
@@ -101,11 +103,13 @@ pub fn repair_register(frame: &[u8], word: &mut [u8]) -> u32 {
     }
 }
 
-/// The number, 256 times the repaired places and 65536 times the bits of B1 to B16 that differed; `record` has 19 values.
-pub fn frame_read(edition: u32, frame: &[u8], record: &mut [u64]) -> u32 {
+/// The number and 65536 times the bits of B1 to B16 that differed; `record` has 21 values, of which the last two are the tuner told and the repaired
+/// places.
+pub fn frame_read(edition: u32, tuner: u32, frame: &[u8], record: &mut [u64]) -> u32 {
     unsafe {
         archive::gvz_frame_read(
             edition,
+            tuner,
             frame.as_ptr(),
             frame.len(),
             record.as_mut_ptr(),
@@ -114,7 +118,7 @@ pub fn frame_read(edition: u32, frame: &[u8], record: &mut [u64]) -> u32 {
     }
 }
 
-/// The number; `record` has 19 values and `frame` 26 bytes.
+/// The number; `record` has 21 values, of which the last two are not looked at, and `frame` 26 bytes.
 pub fn frame_write(edition: u32, record: &[u64], frame: &mut [u8]) -> u32 {
     unsafe {
         archive::gvz_frame_write(
@@ -127,12 +131,12 @@ pub fn frame_write(edition: u32, record: &[u64], frame: &mut [u8]) -> u32 {
     }
 }
 
-/// The number and 256 times 1 for a warned area; `record` has 19 values.
+/// The number and 256 times 1 for a warned area; `record` has 21 values.
 pub fn warned(record: &[u64], area: u64) -> u32 {
     unsafe { archive::gvz_warned(record.as_ptr(), record.len(), area) }
 }
 
-/// The number and 256 times the case; `record` has 19 values and `place`, which is written for a place alone, 3.
+/// The number and 256 times the case; `record` has 21 values and `place`, which is written for a place alone, 3.
 pub fn report(edition: u32, record: &[u64], place: &mut [f64]) -> u32 {
     unsafe {
         archive::gvz_report(

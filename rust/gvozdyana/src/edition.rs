@@ -4,7 +4,7 @@
 /// ```
 /// use gvozdyana::follower::Update;
 /// use gvozdyana::frame::{read, write, Record, Safety, SafetyIdentification};
-/// use gvozdyana::{Edition, Refusal};
+/// use gvozdyana::{Edition, Refusal, Tuner};
 ///
 /// let safety = Safety {
 ///     identification: SafetyIdentification::AreaSafety,
@@ -12,8 +12,10 @@
 ///     time: 1000,
 /// };
 /// let frame = write(Edition::AreaSafety, &Record::area_safety(safety, 5))?;
-/// assert_eq!(read(Edition::AreaSafety, &frame)?.record.region, 5);
-/// assert_eq!(read(Edition::First, &frame), Err(Refusal::Identification));
+/// let reading = read(Edition::AreaSafety, Tuner::None, &frame)?;
+/// assert_eq!(reading.record.region, 5);
+/// let refused = read(Edition::First, Tuner::None, &frame);
+/// assert_eq!(refused, Err(Refusal::Identification));
 /// # Ok::<(), Refusal>(())
 /// ```
 #[derive(Clone, Copy, Debug, PartialEq, Eq, Hash)]

@@ -1,20 +1,20 @@
 //! The warning frame, read and written, and records made of what is meant.
 use crate::follower::Update;
-use crate::{calls, place, told, Edition, Refusal, FRAME_BYTES};
+use crate::{calls, place, told, Edition, Refusal, Tuner, FRAME_BYTES};
 
 /// The values of a frame's record.
-pub const FRAME_VALUES: usize = 19;
+pub const FRAME_VALUES: usize = 21;
 
 /// Areas are numbered from 0 to 55, in the order of the notice's schedule 2; 15 is Tokyo.
 pub const AREAS: u64 = 56;
 
-/// Declares the record and its order as numbers from one table.
+/// Declares the record and its order as numbers from one table, of the fields that stand in the frame; the last two say where the record came from.
 macro_rules! record {
     ($($name:ident, $words:literal;)*) => {
         /// What a frame says, and how many bits each field has. A field that identification, page and kind do not leave free is 0, so that a record
         /// of zeros is a warning for ALL areas. There is no default: make a record by [`Record::no_information`], [`Record::for_areas`],
         /// [`Record::at_place`], [`Record::cancellation`] or [`Record::area_safety`], and change fields then. Each may hold too much for its place,
-        /// and the writer then refuses it.
+        /// and the writer then refuses it. The last two stand in no frame: no rule looks at them, but two records that differ there are not equal.
         ///
         /// ```compile_fail
         /// gvozdyana::frame::Record::default();
@@ -22,17 +22,22 @@ macro_rules! record {
         #[derive(Clone, Copy, Debug, PartialEq, Eq, Hash)]
         pub struct Record {
             $(#[doc = $words] pub $name: u64,)*
+            /// The tuner that the reader was told; none in a record that is made and not read. No rule looks at it.
+            pub tuner: Tuner,
+            /// How many places of B17 to B203 the reader repaired, 0 to 8; 0 in a record that is made and not read. No rule looks at it.
+            pub repaired: u64,
         }
 
         impl Record {
-            /// The record with these values, in the order of the fields.
-            pub fn from_values([$($name),*]: [u64; FRAME_VALUES]) -> Record {
-                Record { $($name),* }
+            /// The record with these values, in the order of the fields; a number that no tuner has is taken for none.
+            pub fn from_values([$($name,)* tuner, repaired]: [u64; FRAME_VALUES]) -> Record {
+                let tuner = Tuner::from_number(tuner);
+                Record { $($name,)* tuner, repaired }
             }
 
-            /// The values of the fields, in their order.
+            /// The values of the fields, in their order; the tuner by its number.
             pub fn values(&self) -> [u64; FRAME_VALUES] {
-                [$(self.$name),*]
+                [$(self.$name,)* self.tuner.number().into(), self.repaired]
             }
         }
     };
@@ -120,18 +125,19 @@ pub struct Safety {
     pub time: u64,
 }
 
-/// All with pattern 0 and a reference bit of 0. Numbers that are too great for their places are kept, and refused by the writer.
+/// All with pattern 0 and a reference bit of 0, from no tuner and with no repaired place. Numbers that are too great for their places are kept, and
+/// refused by the writer.
 impl Record {
     /// No information, from the broadcaster with this number, of 11 bits.
     ///
     /// ```
     /// use gvozdyana::frame::{read, write, Record};
-    /// use gvozdyana::Edition;
+    /// use gvozdyana::{Edition, Tuner};
     ///
     /// let record = Record::no_information(5);
     /// assert_eq!(record.warned_areas().count(), 0);
     /// let frame = write(Edition::First, &record)?;
-    /// assert_eq!(read(Edition::First, &frame)?.record, record);
+    /// assert_eq!(read(Edition::First, Tuner::None, &frame)?.record, record);
     /// # Ok::<(), gvozdyana::Refusal>(())
     /// ```
     pub fn no_information(broadcaster: u64) -> Record {
@@ -274,67 +280,92 @@ impl Record {
     /// Whether an area is warned: on page 0 of identification 0 to 3 its bit is 0. An area above 55 is not.
     pub fn warned(&self, area: u64) -> bool {
         let warned = told(calls::warned(&self.values(), area));
-        warned.expect("the archive refuses no record of 19 values") == 1
+        warned.expect("the archive refuses no record of 21 values") == 1
     }
 
     /// The numbers of the areas that are warned, in their order.
     pub fn warned_areas(&self) -> impl Iterator<Item = u64> + '_ {
         (0..AREAS).filter(|&area| self.warned(area))
     }
+
+    /// Whether all fields are the same but the tuner and the number of repaired places: the two then say the same, and are written alike.
+    ///
+    /// ```
+    /// use gvozdyana::frame::Record;
+    /// use gvozdyana::Tuner;
+    ///
+    /// let desk = Record::no_information(5);
+    /// let main = Record { tuner: Tuner::Main, repaired: 3, ..desk };
+    /// assert!(main != desk && main.same_fields(&desk));
+    /// assert!(!main.same_fields(&Record::no_information(6)));
+    /// ```
+    pub fn same_fields(&self, other: &Record) -> bool {
+        let (tuner, repaired) = (other.tuner, other.repaired);
+        let of_the_same_origin = Record {
+            tuner,
+            repaired,
+            ..*self
+        };
+        of_the_same_origin == *other
+    }
 }
 
-/// An accepted frame's record, and what was damaged in the frame.
+/// An accepted frame's record, and what the record does not hold of the frame.
 #[derive(Clone, Copy, Debug, PartialEq, Eq)]
 pub struct Reading {
-    /// What the frame says.
+    /// What the frame says, the tuner told, and the number of repaired places.
     pub record: Record,
-    /// The number of repaired places, 0 to 8.
-    pub repaired: u8,
     /// How many bits of B1 to B16 differed from the pattern, 0 to 3. They are not among the repaired places.
     pub differing: u8,
 }
 
-/// Reads a frame, by the edition named. Refuses 1 to 9.
+/// Reads a frame, by the edition named. The tuner is told, as [`capture::source`](crate::capture::source) answers it, and goes into the record; it
+/// changes nothing else. Refuses 1 to 9.
 ///
 /// ```
-/// use gvozdyana::frame::read;
-/// use gvozdyana::{Edition, Refusal};
+/// use gvozdyana::frame::{read, Record};
+/// use gvozdyana::{Edition, Refusal, Tuner};
 ///
+/// let read = |frame: &[u8]| read(Edition::First, Tuner::Main, frame);
 /// let mut frame = [0; 26];
-/// assert_eq!(read(Edition::First, &frame), Err(Refusal::NoPattern));
+/// assert_eq!(read(&frame), Err(Refusal::NoPattern));
 /// // Pattern 0 with all else zero is a real warning for all areas.
 /// (frame[0], frame[1]) = (0x1A, 0xF7);
-/// let reading = read(Edition::First, &frame)?;
-/// assert_eq!((reading.repaired, reading.differing), (0, 0));
-/// assert_eq!(reading.record.warned_areas().count(), 56);
-/// // B1 to B3 received wrongly: the same record. Four bits from both patterns are refused.
-/// frame[0] ^= 0x70;
-/// let damaged = read(Edition::First, &frame)?;
-/// assert_eq!((damaged.record, damaged.differing), (reading.record, 3));
+/// let clean = read(&frame)?;
+/// assert_eq!((clean.record.tuner, clean.record.repaired), (Tuner::Main, 0));
+/// assert_eq!(clean.record.warned_areas().count(), 56);
+/// // B203 is hit, and B1 to B3 are received wrongly: the same but for the count.
+/// (frame[0], frame[25]) = (0x6A, 0x10);
+/// let damaged = read(&frame)?;
+/// assert_eq!(damaged.record, Record { repaired: 1, ..clean.record });
+/// assert_eq!((clean.differing, damaged.differing), (0, 3));
+/// // Four bits from both patterns are refused.
 /// frame[0] ^= 0x08;
-/// assert_eq!(read(Edition::First, &frame), Err(Refusal::NoPattern));
+/// assert_eq!(read(&frame), Err(Refusal::NoPattern));
 /// # Ok::<(), Refusal>(())
 /// ```
-pub fn read(edition: Edition, frame: &[u8]) -> Result<Reading, Refusal> {
+pub fn read(edition: Edition, tuner: Tuner, frame: &[u8]) -> Result<Reading, Refusal> {
     let mut values = [0; FRAME_VALUES];
-    let status = calls::frame_read(edition.number(), frame, &mut values);
-    let [repaired, differing, ..] = told(status)?.to_le_bytes();
+    let status = calls::frame_read(edition.number(), tuner.number(), frame, &mut values);
+    let [_, differing, ..] = told(status)?.to_le_bytes();
     Ok(Reading {
         record: Record::from_values(values),
-        repaired,
         differing,
     })
 }
 
-/// Writes a record, by the edition named. Refuses 6, then 10, then 9.
+/// Writes a record, by the edition named; its tuner and its number of repaired places are not looked at. Refuses 6, then 10, then 9.
 ///
 /// ```
 /// use gvozdyana::frame::{read, write, Record};
-/// use gvozdyana::{Edition, Refusal};
+/// use gvozdyana::{Edition, Refusal, Tuner};
 ///
 /// let mut record = Record::no_information(2047);
+/// record.repaired = 7;
 /// let frame = write(Edition::First, &record)?;
-/// assert_eq!(read(Edition::First, &frame)?.record, record);
+/// let again = read(Edition::First, Tuner::Main, &frame)?.record;
+/// assert!(again.same_fields(&record));
+/// assert_eq!((again.tuner, again.repaired), (Tuner::Main, 0));
 /// record.broadcaster = 2048;
 /// assert_eq!(write(Edition::First, &record), Err(Refusal::Field));
 /// record.identification = 4;

@@ -1,6 +1,6 @@
 //! Which areas are warned, by the proved version and by the plain one; of frames without damage also by their own bits.
 mod common;
-use common::{for_each_seed, frames, hex, length, Case, EDITIONS};
+use common::{for_each_seed, frames, hex, length, Case, EDITIONS, TUNERS};
 use gvozdyana::frame::{read, Record};
 use gvozdyana::{calls, Refusal};
 use reference::frame as plain;
@@ -68,7 +68,7 @@ fn every_identification_and_page() {
 fn one_area_alone() {
     for identification in 0..=3 {
         for area in 0..56 {
-            let mut values = [0; 19];
+            let mut values = [0; plain::VALUES];
             values[plain::IDENTIFICATION] = identification;
             values[plain::AREAS] = ((1 << 56) - 1) ^ (1 << (55 - area));
             let record = Record::from_values(values);
@@ -82,7 +82,7 @@ fn one_area_alone() {
 fn records_of_other_lengths() {
     for_each_seed(53, frames() / 5, |random, case| {
         let mut values = legal_record(Body::Areas, random).to_vec();
-        values.resize(length(19, random), 0);
+        values.resize(length(plain::VALUES, random), 0);
         for area in [0, 15, 55, 56, u64::MAX] {
             let status = calls::warned(&values, area);
             let expected = match values[..].try_into() {
@@ -110,24 +110,27 @@ fn areas_of_frames_read() {
             1 => faulty(plain_edition, &[], random).bytes,
             _ => written(&legal_record(Body::Areas, random)).to_vec(),
         };
-        let Ok(reading) = read(edition, &bytes) else {
-            return;
-        };
-        let what = || format!("frame {}, {case}", hex(&bytes));
-        compared(&reading.record.values(), case);
-        let whole = match (reading.repaired, reading.differing) {
-            (0, 0) => bytes.clone(),
-            _ => plain::clean(plain_edition, &bytes)
-                .expect("accepted")
-                .to_vec(),
-        };
-        for area in asked() {
-            let expected = warned_in(&whole, area);
-            assert_eq!(reading.record.warned(area), expected, "{}, {area}", what());
-        }
-        match reading.repaired {
-            0 => undamaged += 1,
-            _ => repaired += 1,
+        for (tuner, _) in TUNERS {
+            let Ok(reading) = read(edition, tuner, &bytes) else {
+                return;
+            };
+            let what = || format!("{tuner:?}, frame {}, {case}", hex(&bytes));
+            let record = reading.record;
+            compared(&record.values(), case);
+            let whole = match (record.repaired, reading.differing) {
+                (0, 0) => bytes.clone(),
+                _ => plain::clean(plain_edition, &bytes)
+                    .expect("accepted")
+                    .to_vec(),
+            };
+            for area in asked() {
+                let expected = warned_in(&whole, area);
+                assert_eq!(record.warned(area), expected, "{}, {area}", what());
+            }
+            match record.repaired {
+                0 => undamaged += 1,
+                _ => repaired += 1,
+            }
         }
     });
     println!("undamaged {undamaged}, repaired {repaired}");

@@ -1,6 +1,6 @@
 //! Every function with empty slices, one after another and all at once: refusal 1, or what document 01 says, and nothing written elsewhere; whatever
-//! the edition.
-use gvozdyana::frame::{write, Record};
+//! the edition and the tuner.
+use gvozdyana::frame::{write, Record, FRAME_VALUES};
 use gvozdyana::header::{self, Header};
 use gvozdyana::{calls, Edition};
 
@@ -9,6 +9,9 @@ const WRONG_LENGTH: u32 = 1;
 
 /// The editions' numbers, and one that no edition has.
 const EDITIONS: [u32; 3] = [0, 1, u32::MAX];
+
+/// The tuners' numbers, and two that no tuner has.
+const TUNERS: [u32; 5] = [0, 1, 2, 3, u32::MAX];
 
 #[test]
 fn of_frames() {
@@ -22,11 +25,15 @@ fn of_frames() {
         assert_eq!(repair(&[], &mut []), WRONG_LENGTH);
     }
     for edition in EDITIONS {
-        let mut left = [7; 19];
-        assert_eq!(calls::frame_read(edition, &[], &mut left), WRONG_LENGTH);
-        assert_eq!(left, [7; 19]);
-        assert_eq!(calls::frame_read(edition, &frame, &mut []), WRONG_LENGTH);
-        assert_eq!(calls::frame_read(edition, &[], &mut []), WRONG_LENGTH);
+        for tuner in TUNERS {
+            let read =
+                |frame: &[u8], left: &mut [u64]| calls::frame_read(edition, tuner, frame, left);
+            let mut left = [7; FRAME_VALUES];
+            assert_eq!(read(&[], &mut left), WRONG_LENGTH);
+            assert_eq!(left, [7; FRAME_VALUES]);
+            assert_eq!(read(&frame, &mut []), WRONG_LENGTH);
+            assert_eq!(read(&[], &mut []), WRONG_LENGTH);
+        }
         let mut left = [7; 26];
         assert_eq!(calls::frame_write(edition, &[], &mut left), WRONG_LENGTH);
         assert_eq!(left, [7; 26]);

@@ -1,11 +1,13 @@
 //! The names and numbers here are those of the C header, include/gvozdyana.h, which is read as text.
-use gvozdyana::capture::{source, Tuner};
+use gvozdyana::capture::source;
 use gvozdyana::follower::{State, Update};
-use gvozdyana::frame::{write, Identification, Record, Safety, SafetyIdentification, Warning};
+use gvozdyana::frame::{
+    read, write, Identification, Record, Safety, SafetyIdentification, Warning,
+};
 use gvozdyana::frame::{AREAS, FRAME_VALUES};
 use gvozdyana::header::{Header, HEADER_VALUES};
 use gvozdyana::place::{fields, report, Fields, Place};
-use gvozdyana::{calls, Edition, Refusal, FRAME_BYTES, HEADER_BYTES};
+use gvozdyana::{calls, Edition, Refusal, Tuner, FRAME_BYTES, HEADER_BYTES};
 use std::fmt::Debug;
 
 const HEADER_FILE: &str = include_str!("../../../include/gvozdyana.h");
@@ -43,16 +45,22 @@ fn c_name(name: &str) -> String {
     text
 }
 
-/// The fields of a struct and the first number of each, as `{:?}` writes them.
-fn shown(value: impl Debug) -> Vec<(String, u64)> {
+/// The fields of a struct and the first word of each, as `{:?}` writes them.
+fn words(value: impl Debug) -> Vec<(String, String)> {
     let text = format!("{value:?}");
     let words: Vec<&str> = text.split([' ', ',', '[', ']']).collect();
     let words: Vec<&str> = words.into_iter().filter(|word| !word.is_empty()).collect();
     let pairs = words.windows(2).filter_map(|pair| {
         let name = pair[0].strip_suffix(':')?;
-        Some((c_name(name), pair[1].parse().expect("a number")))
+        Some((c_name(name), pair[1].to_string()))
     });
     pairs.collect()
+}
+
+/// The same where each first word is a number.
+fn shown(value: impl Debug) -> Vec<(String, u64)> {
+    let number = |(name, word): (String, String)| (name, word.parse().expect("a number"));
+    words(value).into_iter().map(number).collect()
 }
 
 fn warning() -> Warning {
@@ -142,12 +150,23 @@ fn the_editions() {
     assert_eq!(declared("gvz_edition", "GVZ_EDITION_"), expected);
 }
 
+/// Each value is one field's, also the tuner's, which is no number here.
 #[test]
 fn the_fields_of_a_record() {
-    let record = Record::from_values(std::array::from_fn(|i| i as u64));
-    let expected = declared("gvz_record_index", "GVZ_RECORD_");
-    assert_eq!(shown(record), expected);
-    assert_eq!(expected.len(), FRAME_VALUES);
+    let zeros = words(Record::from_values([0; FRAME_VALUES]));
+    let fields: Vec<(String, u64)> = (0..FRAME_VALUES)
+        .map(|i| {
+            let mut values = [0; FRAME_VALUES];
+            values[i] = 1;
+            let ones = words(Record::from_values(values));
+            let mut differing = ones.into_iter().filter(|field| !zeros.contains(field));
+            let (name, _) = differing.next().expect("a field");
+            assert_eq!(differing.next(), None, "{name}");
+            (name, i as u64)
+        })
+        .collect();
+    assert_eq!(declared("gvz_record_index", "GVZ_RECORD_"), fields);
+    assert_eq!(zeros.len(), FRAME_VALUES);
 }
 
 /// The identifiers, which are in turn, are two fields here.
@@ -258,15 +277,40 @@ fn the_tuners() {
     let frame = write(EDITION, &Record::no_information(5)).expect("legal");
     let captures: [(&[u8], &[u8]); 3] = [(&[], &[]), (&frame, &[]), (&[], &frame)];
     let sources = captures.map(|(main, spare)| source(EDITION, main, spare, 0));
-    assert_eq!(sources, [None, Some(Tuner::Main), Some(Tuner::Spare)]);
+    assert_eq!(sources, [Tuner::None, Tuner::Main, Tuner::Spare]);
     let tuners = captures.map(|(main, spare)| {
         let number = calls::capture_source(EDITION.number(), main, spare, 0);
-        match source(EDITION, main, spare, 0) {
-            None => ("NEITHER".to_string(), number.into()),
-            Some(tuner) => told(tuner, number),
-        }
+        let tuner = source(EDITION, main, spare, 0);
+        assert_eq!(tuner.number(), number);
+        told(tuner, number)
     });
     assert_eq!(declared("gvz_tuner", "GVZ_TUNER_"), tuners);
+    // The reader is told the same numbers, and a record holds them.
+    let held = sources.map(|tuner| {
+        let record = read(EDITION, tuner, &frame).expect("accepted").record;
+        assert_eq!(record.tuner, tuner);
+        let number = calls::frame_read(EDITION.number(), tuner.number(), &frame, &mut [0; 21]);
+        assert_eq!(number, 0);
+        told(record.tuner, record.values()[19] as u32)
+    });
+    assert_eq!(held, tuners);
+}
+
+/// The parts of a status are where the macros take them from.
+#[test]
+fn the_parts_of_a_status() {
+    let mut frame = write(EDITION, &Record::no_information(5)).expect("legal");
+    // One of B1 to B16, and B202 and B203.
+    frame[0] ^= 0x10;
+    frame[25] ^= 0x30;
+    assert_eq!(defined("GVZ_REFUSAL(status)"), "((status) & 255u)");
+    assert_eq!(defined("GVZ_REPAIRED(status)"), "((status) >> 8 & 255u)");
+    assert_eq!(defined("GVZ_SYNC_BITS(status)"), "((status) >> 16 & 255u)");
+    assert_eq!(calls::repair(&frame, &mut [0; 26]), 2 << 8);
+    assert_eq!(calls::repair_register(&frame, &mut [0; 26]), 2 << 8);
+    let mut values = [0; FRAME_VALUES];
+    let status = calls::frame_read(EDITION.number(), 1, &frame, &mut values);
+    assert_eq!((status, values[19], values[20]), (1 << 16, 1, 2));
 }
 
 /// A place's doubles and the desk's field values stand where the header file says.

@@ -5,6 +5,7 @@ use gvozdyana::calls;
 use gvozdyana::frame::Record;
 use gvozdyana::place::{fields, report, Fields, Place, Report};
 use gvozdyana::Refusal;
+use reference::frame::VALUES;
 use reference::place as plain;
 use samples::doubles::{depth, double, SPECIAL};
 use samples::records::{legal_record, record, Body, BODIES};
@@ -111,9 +112,9 @@ fn reports_of_all_sorts() {
         let edition = edition_number(random);
         let (typed_edition, plain_edition) = edition_of(edition);
         let values = record(random);
-        let (record_len, place_len) = (length(19, random), length(3, random));
+        let (record_len, place_len) = (length(VALUES, random), length(3, random));
         let mut given = values.to_vec();
-        given.resize(40, 0);
+        given.resize(2 * VALUES + 2, 0);
         let before: Vec<f64> = numbers(place_len, random)
             .into_iter()
             .map(f64::from_bits)
@@ -121,7 +122,7 @@ fn reports_of_all_sorts() {
         let mut left = before.clone();
         let status = calls::report(edition, &given[..record_len], &mut left);
         let answer = match (record_len, place_len) {
-            (19, 3) => plain::report(plain_edition, &values),
+            (VALUES, 3) => plain::report(plain_edition, &values),
             _ => Err(1),
         };
         let mut expected = before;

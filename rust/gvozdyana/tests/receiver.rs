@@ -2,9 +2,11 @@
 mod common;
 use common::{edition_number, edition_of, for_each_seed, frames, hex, number, Case, EDITIONS};
 use gvozdyana::follower::{Event, State};
-use gvozdyana::{calls, capture, Refusal};
+use gvozdyana::frame::read;
+use gvozdyana::{calls, capture, Refusal, Tuner};
 use reference::follower as plain;
-use reference::frame::{Edition, IDENTIFICATION, UPDATE};
+use reference::frame::{Edition, Record, IDENTIFICATION, REPAIRED, TUNER, UPDATE, VALUES};
+use samples::captures::{captures, Expected};
 use samples::frames::{frame, hit, written};
 use samples::records::{legal_record, BODIES};
 use samples::Random;
@@ -175,6 +177,8 @@ fn asked(main: &[u8], spare: &[u8], n: u64, edition: u32, case: Case) -> [u32; 2
         let (a, b, source) = by(typed.number(), plain_edition);
         let (first, second) = capture::numbers(typed, main, spare, n);
         assert_eq!((number(first), number(second)), (a, b), "{}", what());
+        let tuner = capture::source(typed, main, spare, n);
+        assert_eq!(tuner.number(), source, "{}", what());
         let part = capture::frame_at(typed, main, spare, n).unwrap_or(&[]);
         let plain = reference::capture::frame_at(plain_edition, main, spare, n);
         assert_eq!(part, plain, "{}", what());
@@ -204,11 +208,87 @@ fn captures_asked() {
     assert_eq!((seen[1][0], seen[1][2], seen[2][0]), (0, 0, 0), "{seen:?}");
 }
 
+/// Frame n of two captures, as the source, the frame's bytes and the reader answer it together: its record and the differing bits of B1 to B16, or both
+/// tuners' numbers.
+fn composed(
+    edition: gvozdyana::Edition,
+    main: &[u8],
+    spare: &[u8],
+    n: u64,
+) -> Result<(Record, u8), (u8, u8)> {
+    let tuner = capture::source(edition, main, spare, n);
+    let Some(frame) = capture::frame_at(edition, main, spare, n) else {
+        assert_eq!(tuner, Tuner::None);
+        let (main, spare) = capture::numbers(edition, main, spare, n);
+        return Err((number(main), number(spare)));
+    };
+    let reading = read(edition, tuner, frame).expect("accepted there");
+    Ok((reading.record.values(), reading.differing))
+}
+
+/// The same over plain numbers, as a C program asks it.
+fn composed_by(edition: u32, main: &[u8], spare: &[u8], n: u64) -> Result<(Record, u8), (u8, u8)> {
+    let tuner = calls::capture_source(edition, main, spare, n);
+    let capture = match tuner {
+        1 => main,
+        2 => spare,
+        _ => {
+            assert_eq!(tuner, 0);
+            let [main, spare, ..] = calls::capture_numbers(edition, main, spare, n).to_le_bytes();
+            return Err((main, spare));
+        }
+    };
+    let frame = &capture[26 * n as usize..][..26];
+    let mut record = [7; VALUES];
+    let status = calls::frame_read(edition, tuner, frame, &mut record);
+    assert_eq!(status & 0xFF00_FFFF, 0, "accepted there");
+    Ok((record, (status >> 16) as u8))
+}
+
+/// The record of frame n says which tuner it came from, and how many of its own places were repaired.
+#[test]
+fn captures_read() {
+    let mut seen = [[0; 9]; 3];
+    for_each_seed(34, frames() / 10, |random, case| {
+        let sample = captures(random);
+        let (main, spare, n) = (&sample.main, &sample.spare, sample.n);
+        let what = || format!("main {}, spare {}, n {n}, {case}", hex(main), hex(spare));
+        let any = edition_number(random);
+        let by_any = composed_by(any, main, spare, n);
+        let plain = reference::capture::read(edition_of(any).1, main, spare, n);
+        assert_eq!(by_any, plain, "edition {any}, {}", what());
+        for (edition, plain_edition) in EDITIONS {
+            let answer = composed(edition, main, spare, n);
+            let plain = reference::capture::read(plain_edition, main, spare, n);
+            assert_eq!(answer, plain, "{edition:?}, {}", what());
+            let by_number = composed_by(edition.number(), main, spare, n);
+            assert_eq!(by_number, plain, "{edition:?}, {}", what());
+            match sample.expected(plain_edition) {
+                Expected::Read(record, differing) => {
+                    assert_eq!(answer, Ok((record, differing)), "{}", what());
+                }
+                Expected::Neither(main, spare) => {
+                    assert_eq!(answer, Err((main, spare)), "{}", what());
+                }
+                Expected::Open => {}
+            }
+            match answer {
+                Ok((record, _)) => seen[record[TUNER] as usize][record[REPAIRED] as usize] += 1,
+                Err(_) => seen[0][0] += 1,
+            }
+        }
+    });
+    println!("neither, and main and spare by the repaired places: {seen:?}");
+    assert!(seen[0][0] > 0, "{seen:?}");
+    let counts = seen[1..].as_flattened();
+    assert!(counts.iter().all(|&count| count > 0), "{seen:?}");
+}
+
 /// All transitions among the five states: another kind begins, whatever the updates, and no information ends.
 #[test]
 fn the_four_kinds() {
     let frame_of = |identification, update| {
-        let mut record = [0; 19];
+        let mut record = [0; VALUES];
         (record[IDENTIFICATION], record[UPDATE]) = (identification, update);
         written(&record)
     };

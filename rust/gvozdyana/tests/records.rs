@@ -1,13 +1,13 @@
 //! Records made of what is meant: what they hold, that the writer takes them exactly where the numbers fit, and what is read of them, in both
 //! editions.
 mod common;
-use common::{for_each_seed, EDITIONS};
+use common::{for_each_seed, EDITIONS, TUNERS};
 use gvozdyana::follower::{Event, State, Update};
 use gvozdyana::frame::{
     read, write, Identification, Record, Safety, SafetyIdentification, Warning, AREAS,
 };
 use gvozdyana::place::{self, Fields, Report};
-use gvozdyana::{Edition, Refusal};
+use gvozdyana::{Edition, Refusal, Tuner};
 use reference::frame as plain;
 use samples::Random;
 
@@ -36,13 +36,15 @@ fn place(random: &mut Random) -> Fields {
     }
 }
 
-/// The record has these values and 0 elsewhere, is written as the plain version writes it, and is read back; then the event of its frame.
+/// The record has these values and 0 elsewhere, is written as the plain version writes it, and is read back, as the tuner's that is told; then the
+/// event of its frame.
 fn expect_by(
     (edition, plain_edition): (Edition, plain::Edition),
     record: Record,
     fields: &[(usize, u64)],
 ) -> (State, Event) {
-    let mut values = [0; 19];
+    assert_eq!((record.tuner, record.repaired), (Tuner::None, 0));
+    let mut values = [0; plain::VALUES];
     for &(field, value) in fields {
         values[field] = value;
     }
@@ -51,8 +53,10 @@ fn expect_by(
     let number = plain::write(plain_edition, &values, &mut expected);
     assert_eq!(number, 0, "{record:?}");
     assert_eq!(write(edition, &record), Ok(expected));
-    let again = read(edition, &expected).map(|reading| reading.record);
-    assert_eq!(again, Ok(record));
+    for (tuner, _) in TUNERS {
+        let again = read(edition, tuner, &expected).map(|reading| reading.record);
+        assert_eq!(again, Ok(Record { tuner, ..record }));
+    }
     State::Quiet.follow(edition, &expected)
 }
 

@@ -1,6 +1,6 @@
 //! Seeded cases. GVZ_SEED starts from another seed; GVZ_FRAMES and GVZ_HEADERS ask for other numbers of cases. A mismatch tells its case.
 #![allow(dead_code)]
-use gvozdyana::{Edition, Refusal};
+use gvozdyana::{Edition, Refusal, Tuner};
 use reference::frame as plain;
 use samples::Random;
 use std::fmt;
@@ -42,6 +42,29 @@ pub fn edition_number(random: &mut Random) -> u32 {
 /// The edition that a number is taken for: 1 is area safety, and any other the first.
 pub fn edition_of(number: u32) -> (Edition, plain::Edition) {
     EDITIONS[usize::from(number == 1)]
+}
+
+/// The tuner as the wrapper and the plain version name it, in the order of their numbers.
+pub const TUNERS: [(Tuner, plain::Tuner); 3] = [
+    (Tuner::None, plain::Tuner::None),
+    (Tuner::Main, plain::Tuner::Main),
+    (Tuner::Spare, plain::Tuner::Spare),
+];
+
+/// The numbers that a reader is told: every tuner's, and one that no tuner has, which may be one once it is cut short.
+pub fn tuner_numbers(random: &mut Random) -> [u32; 4] {
+    let any = random.number() as u32;
+    let other = random.pick(&[3, 255, 256, 257, 258, 1 << 16 | 1, 1 << 31 | 2, any, any]);
+    [0, 1, 2, other.max(3)]
+}
+
+/// The tuner that a number is taken for: 1 is main, 2 spare, and any other none.
+pub fn tuner_of(number: u32) -> (Tuner, plain::Tuner) {
+    match number {
+        1 => TUNERS[1],
+        2 => TUNERS[2],
+        _ => TUNERS[0],
+    }
 }
 
 /// Which case of a sort, and the seed that makes it.
