@@ -31,6 +31,9 @@ from-own r = refl
 pub same-from : (r s : Record) → SameFields r s → r ≡ withOrigin (r .origin) s
 same-from r s e = sym (from-own r) ∙ ap (recordFrom (r .origin)) e
 
+pub same-whole : (r s : Record) → SameFields r s → r .origin ≡ s .origin → r ≡ s
+same-whole r s e q = same-from r s e ∙ ap (λ (o : Origin). withOrigin o s) q ∙ from-own s
+
 -- what does not look at the origin is the same of both
 pub same-by : {A : Type 0} (g : Record → A) → ((o : Origin) (r : Record) → g (withOrigin o r) ≡ g r) → (r s : Record) → SameFields r s → g r ≡ g s
 same-by g h r s e = ap g (same-from r s e) ∙ h (r .origin) s

@@ -41,7 +41,7 @@ use Rattle.frame.specs.declared.Reading.{Reading}
 use Rattle.frame.specs.declared.Reading.the-variants.{Accepted, Refused}
 use Rattle.frame.proofs.Parts.{part-bits, length-part, frame-bits, filler-whole, frame-split, frame-parts}
 use Rattle.frame.proofs.Bodies.{layout-sum, legal-sound, taken}
-use Rattle.frame.proofs.Origins.{from-fields, from-origin, from-again, from-legal, from-frame, same-legal, same-written, same-warned}
+use Rattle.frame.proofs.Origins.{from-fields, from-origin, from-again, from-legal, from-frame, same-whole, same-legal, same-written, same-warned}
 use Rattle.frame.proofs.Frames.{wordOf, record-word, length-frame, parts-frame, found-record, found-accepted, Outside, outside, own-outside}
 use Rattle.frame.proofs.Areas.{warned-on-air}
 use Rattle.frame.proofs.Readings.{Judged, accepted-judged, judged-accepted, judged-places, judged-dist, judged-read, read-legal, read-word}
@@ -435,6 +435,7 @@ module _ (ed : Edition) where
         tuner-told = λ t f r d e. read-origin t f r d e .0;
         other-tuner = λ t u f r d e. other-tuner t f r d e u;
         other-refused = other-refused;
+        same-whole = same-whole;
         same-some = λ o r. (sym (from-fields o r), from-origin o r);
         same-legal = same-legal ed;
         same-written = same-written ed;
