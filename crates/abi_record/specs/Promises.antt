@@ -12,5 +12,6 @@ pub record RecordValues : Type 0 where
   pub size : (r : Record) → length (valuesOf r) ≡ valueCount
   -- and comes back from them, its origin too: a count is a number of 8 bits
   pub back : (r : Record) → r .origin .repaired < 256 → recordAt (valuesOf r) ≡ r
-  -- whatever stands in the last two, it is the same in all fields but these two; so the writer, the report and the areas take any values there
+  -- whatever stands in the last two, it is the same in all fields but the tuner and the number of repaired places; so the writer, the report and the areas
+  -- take any values there
   pub same : (v w : List ℕ) → take fieldCount v ≡ take fieldCount w → SameFields (recordAt v) (recordAt w)

@@ -104,18 +104,18 @@ module _ (ed : Edition) where
         ap told-from (source-none ed main spare n m s) ∙ ap (λ (a : Reading). answered a (numbersOf ed main spare n)) (refused-read ed None [] empty-refused)
 
     -- as the code comes to them: a is main's reading, b spare's
-    pub by-main : (a : Reading) (r : Record) (d : ℕ) → a ≡ readingAt ed Main main n → a ≡ reading.Accepted r d → Accepted r d ≡ captureReadOf ed main spare n
-    by-main a r d p q = sym (main-first r d (at-accepted Main main n r d (sym p ∙ q)))
+    pub read-main : (a : Reading) (r : Record) (d : ℕ) → a ≡ readingAt ed Main main n → a ≡ reading.Accepted r d → Accepted r d ≡ captureReadOf ed main spare n
+    read-main a r d p q = sym (main-first r d (at-accepted Main main n r d (sym p ∙ q)))
 
-    pub by-spare : (a b : Reading) (m : ℕ) (r : Record) (d : ℕ) → a ≡ readingAt ed Main main n → a ≡ reading.Refused m → b ≡ readingAt ed Spare spare n
+    pub read-spare : (a b : Reading) (m : ℕ) (r : Record) (d : ℕ) → a ≡ readingAt ed Main main n → a ≡ reading.Refused m → b ≡ readingAt ed Spare spare n
         → b ≡ reading.Accepted r d → Accepted r d ≡ captureReadOf ed main spare n
-    by-spare a b m r d p q x y =
+    read-spare a b m r d p q x y =
         let z = at-refused Main main n m (sym p ∙ q) in
         sym (spare-otherwise r d (λ e. z .1 (sym (z .0) ∙ e)) (at-accepted Spare spare n r d (sym x ∙ y)))
 
-    pub by-neither : (a b : Reading) (m s : ℕ) → a ≡ readingAt ed Main main n → a ≡ reading.Refused m → b ≡ readingAt ed Spare spare n → b ≡ reading.Refused s
+    pub read-neither : (a b : Reading) (m s : ℕ) → a ≡ readingAt ed Main main n → a ≡ reading.Refused m → b ≡ readingAt ed Spare spare n → b ≡ reading.Refused s
         → Refused m s ≡ captureReadOf ed main spare n
-    by-neither a b m s p q x y =
+    read-neither a b m s p q x y =
         let z = at-refused Main main n m (sym p ∙ q) in
         let w = at-refused Spare spare n s (sym x ∙ y) in
         ap₂ Refused (sym (z .0)) (sym (w .0)) ∙ sym (neither (λ e. z .1 (sym (z .0) ∙ e)) (λ e. w .1 (sym (w .0) ∙ e)))

@@ -1,24 +1,26 @@
 -- The promises hold. Assumes nothing.
-use mathlib.Core.Path.{_≡_, refl, sym, ap, _∙_, subst}
+use mathlib.Core.Path.{_≡_, refl, sym, ap, ap₂, _∙_, subst}
 use mathlib.Core.Logic.{_≢_}
 use mathlib.Core.List.{List, []}
 use Prim.Native.Nat.{ℕ}
 use native.Mathlib.Omega.{arith}
 use lib.Seq.{take-all}
-use Rattle.frame.specs.Read.{readOf}
-use Rattle.frame.specs.Write.{frameOf}
-use Rattle.frame.specs.Promises.{ComesBack}
+use Rattle.frame.specs.Fields.{withOrigin}
+use Rattle.frame.specs.Read.{readOf, readingFields}
+use Rattle.frame.specs.Write.{Legal, frameOf}
 use Rattle.frame.specs.declared.Edition.{Edition}
 use Rattle.frame.specs.declared.Tuner.{Tuner}
 use Rattle.frame.specs.declared.Tuner.the-variants.{None, Main, Spare}
+use Rattle.frame.specs.declared.Origin.{Origin}
 use Rattle.frame.specs.declared.Record.{Record}
 use Rattle.frame.specs.declared.Reading.{Reading}
 use Rattle.frame.specs.declared.Reading.the-variants as reading
 use Rattle.frame.proofs.Frames.{length-frame}
-use Rattle.frame.proofs.Promises.{origins}
-use Rattle.capture.specs.Capture.{partAt, numberAt, sourceOf, frameAt}
+use Rattle.frame.proofs.Promises.{demand2, origins, same-records}
+use Rattle.capture.specs.Capture.{partAt, numberAt, numbersOf, sourceOf, frameAt}
+use Rattle.capture.specs.declared.TunerNumbers.{TunerNumbers}
 use Rattle.capture.proofs.Choice.{number-past, source-main, source-spare, Choice, by-main, by-spare, by-none, choice}
-use Rattle.capture_reader.specs.CaptureRead.{answered, captureReadOf, captureRefusals, readingAt}
+use Rattle.capture_reader.specs.CaptureRead.{answered, captureReadOf, captureRefusals, captureFields, readingAt}
 use Rattle.capture_reader.specs.Promises.{CaptureReads}
 use Rattle.capture_reader.specs.declared.CaptureReading.the-variants.{Accepted, Refused}
 use Rattle.capture_reader.proofs.CaptureReads.{at-accepted, at-refused, main-first, spare-otherwise, neither}
@@ -27,6 +29,10 @@ use Rattle.capture_reader.proofs.CaptureReads.{at-accepted, at-refused,
 read-answered : (a : Reading) (main spare : ℕ) (r : Record) (d : ℕ) → answered a (record { main = main; spare = spare }) ≡ Accepted r d → a ≡ reading.Accepted r d
 read-answered (reading.Accepted s b) main spare r d e = let x : s ≡ r = cc in let y : b ≡ d = cc in rw (x, y)
 read-answered (reading.Refused m) main spare r d e = let z : _≡_ {A = ℕ} 0 1 = cc in absurd (omega arith)
+
+answered-fields : (a : Reading) (numbers : TunerNumbers) → captureFields (answered a numbers) ≡ readingFields a
+answered-fields (reading.Accepted r d) numbers = refl
+answered-fields (reading.Refused m) numbers = refl
 
 -- a number that is no 0
 given : {m n : ℕ} → m ≡ n → n ≢ 0 → m ≢ 0
@@ -68,6 +74,10 @@ module _ (ed : Edition) where
         → (r .origin .tuner ≡ sourceOf ed main spare n) × ((r .origin .tuner ≢ None) × (readOf ed (r .origin .tuner) (frameAt ed main spare n) ≡ reading.Accepted r d))
     accepted-only r d e = let k = from r d e in (k .tuner, (λ z. some-tuner r d e (sym (k .tuner) ∙ z), k .read))
 
+    fields-told : captureFields (captureReadOf ed main spare n) ≡ readingFields (readOf ed (sourceOf ed main spare n) (frameAt ed main spare n))
+    unfolding captureReadOf
+    fields-told = answered-fields (readOf ed (sourceOf ed main spare n) (frameAt ed main spare n)) (numbersOf ed main spare n)
+
     refused-only : captureRefusals (captureReadOf ed main spare n) ≢ [] → (numberAt ed main n ≢ 0) × (numberAt ed spare n ≢ 0)
     refused-only h = go (readingAt ed Main main n) (readingAt ed Spare spare n) refl refl
       where
@@ -86,14 +96,25 @@ module _ (ed : Edition) where
   own-part : (r : Record) → frameOf ed r ≡ partAt (frameOf ed r) 0
   own-part r = sym (take-all 26 (frameOf ed r) (omega (arith, length-frame ed r)))
 
-  main-some : (r : Record) (spare : List ℕ) (b : ComesBack r Main 0 0 (readOf ed Main (frameOf ed r)))
-      → captureReadOf ed (frameOf ed r) spare 0 ≡ Accepted (b .back) 0
-  main-some r spare b = main-first ed (frameOf ed r) spare 0 (b .back) 0 (ap (readOf ed Main) (sym (own-part r)) ∙ b .accepted)
+  -- what comes back is the record from that tuner
+  read-own : (t : Tuner) (r : Record) → Legal ed r
+      → readOf ed t (partAt (frameOf ed r) 0) ≡ reading.Accepted (withOrigin (record { tuner = t; repaired = 0 }) r) 0
+  read-own t r l =
+      let o : Origin = record { tuner = t; repaired = 0 } in
+      let b = demand2 ed .comes-back t r l in
+      let k = same-records .same-some o r in
+      let own : b .back .origin ≡ o = ap₂ (λ (u : Tuner) (m : ℕ). record { tuner = u; repaired = m }) (b .tuner) (b .repaired) in
+      let whole : b .back ≡ withOrigin o r = same-records .same-whole (b .back) (withOrigin o r) (sym (b .same) ∙ k .0) (own ∙ sym (k .1)) in
+      ap (readOf ed t) (sym (own-part r)) ∙ b .accepted ∙ ap (λ (y : Record). reading.Accepted y 0) whole
 
-  spare-some : (r : Record) (b : ComesBack r Spare 0 0 (readOf ed Spare (frameOf ed r))) → captureReadOf ed [] (frameOf ed r) 0 ≡ Accepted (b .back) 0
-  spare-some r b =
+  main-some : (r : Record) (spare : List ℕ) → Legal ed r
+      → captureReadOf ed (frameOf ed r) spare 0 ≡ Accepted (withOrigin (record { tuner = Main; repaired = 0 }) r) 0
+  main-some r spare l = main-first ed (frameOf ed r) spare 0 _ 0 (read-own Main r l)
+
+  spare-some : (r : Record) → Legal ed r → captureReadOf ed [] (frameOf ed r) 0 ≡ Accepted (withOrigin (record { tuner = Spare; repaired = 0 }) r) 0
+  spare-some r l =
       let past : numberAt ed [] 0 ≡ 1 = number-past ed [] 0 (omega arith) in
-      spare-otherwise ed [] (frameOf ed r) 0 (b .back) 0 (given past (λ z. omega arith)) (ap (readOf ed Spare) (sym (own-part r)) ∙ b .accepted)
+      spare-otherwise ed [] (frameOf ed r) 0 _ 0 (given past (λ z. omega arith)) (read-own Spare r l)
 
   pub capture-reads : CaptureReads ed
   capture-reads =
@@ -103,6 +124,7 @@ module _ (ed : Edition) where
         neither = λ main spare n m s. ap captureRefusals (neither ed main spare n m s);
         accepted-only = accepted-only;
         refused-only = refused-only;
+        fields-told = fields-told;
         main-some = main-some;
         spare-some = spare-some;
       }

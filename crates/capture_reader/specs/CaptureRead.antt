@@ -4,6 +4,7 @@ use mathlib.Core.List.{List, [], _∷_}
 use Prim.Native.Nat.{ℕ, _+_, _*_}
 use lib.Dec.{leb}
 use lib.ListN.{length}
+use Rattle.frame.specs.Fields.{fields}
 use Rattle.frame.specs.Read.{readOf}
 use Rattle.frame.specs.declared.Edition.{Edition}
 use Rattle.frame.specs.declared.Tuner.{Tuner}
@@ -24,10 +25,14 @@ answered (reading.Refused n) numbers = Refused (numbers .main) (numbers .spare)
 unfoldable pub captureReadOf : Edition → (main spare : List ℕ) → ℕ → CaptureReading
 captureReadOf ed main spare n = answered (readOf ed (sourceOf ed main spare n) (frameAt ed main spare n)) (numbersOf ed main spare n)
 
--- the documents' numbers of an answer, main first: none where there is a record
+-- the documents' numbers and values of an answer: both tuners' numbers, main first, and nothing else, or the record's fields and no number
 abbrev pub captureRefusals : CaptureReading → List ℕ
 captureRefusals (Accepted r d) = []
 captureRefusals (Refused m s) = m ∷ s ∷ []
+
+abbrev pub captureFields : CaptureReading → List ℕ
+captureFields (Accepted r d) = fields r
+captureFields (Refused m s) = []
 
 -- frame n of the capture c of one tuner, as the code reads it; no promise speaks of it
 unfoldable pub readingAt : Edition → Tuner → List ℕ → ℕ → Reading

@@ -4,15 +4,15 @@ use mathlib.Core.Path.{_≡_}
 use mathlib.Core.Logic.{_≢_}
 use mathlib.Core.List.{List, [], _∷_}
 use Prim.Native.Nat.{ℕ}
-use Rattle.frame.specs.Read.{readOf}
-use Rattle.frame.specs.Write.{frameOf}
-use Rattle.frame.specs.Promises.{ComesBack}
+use Rattle.frame.specs.Fields.{withOrigin}
+use Rattle.frame.specs.Read.{readOf, readingFields}
+use Rattle.frame.specs.Write.{Legal, frameOf}
 use Rattle.frame.specs.declared.Edition.{Edition}
 use Rattle.frame.specs.declared.Tuner.the-variants.{None, Main, Spare}
 use Rattle.frame.specs.declared.Record.{Record}
 use Rattle.frame.specs.declared.Reading.the-variants as reading
 use Rattle.capture.specs.Capture.{partAt, numberAt, sourceOf, frameAt}
-use Rattle.capture_reader.specs.CaptureRead.{captureReadOf, captureRefusals}
+use Rattle.capture_reader.specs.CaptureRead.{captureReadOf, captureRefusals, captureFields}
 use Rattle.capture_reader.specs.declared.CaptureReading.the-variants.{Accepted}
 
 pub record CaptureReads (ed : Edition) : Type 0 where
@@ -29,7 +29,10 @@ pub record CaptureReads (ed : Edition) : Type 0 where
       → (r .origin .tuner ≡ sourceOf ed main spare n) × ((r .origin .tuner ≢ None) × (readOf ed (r .origin .tuner) (frameAt ed main spare n) ≡ reading.Accepted r d))
   -- numbers are told only where both are refusals
   pub refused-only : (main spare : List ℕ) (n : ℕ) → captureRefusals (captureReadOf ed main spare n) ≢ [] → (numberAt ed main n ≢ 0) × (numberAt ed spare n ≢ 0)
-  -- a record's frame in the main capture, or in the spare one alone, comes back as that record with that tuner: a legal one's, by demand 2
-  pub main-some : (r : Record) (spare : List ℕ) (b : ComesBack r Main 0 0 (readOf ed Main (frameOf ed r)))
-      → captureReadOf ed (frameOf ed r) spare 0 ≡ Accepted (b .back) 0
-  pub spare-some : (r : Record) (b : ComesBack r Spare 0 0 (readOf ed Spare (frameOf ed r))) → captureReadOf ed [] (frameOf ed r) 0 ≡ Accepted (b .back) 0
+  -- the fields that are told are those that the reader tells of the frame's own bytes
+  pub fields-told : (main spare : List ℕ) (n : ℕ)
+      → captureFields (captureReadOf ed main spare n) ≡ readingFields (readOf ed (sourceOf ed main spare n) (frameAt ed main spare n))
+  -- a legal record's frame in the main capture, or in the spare one alone, is that record again, with that tuner and no repaired place
+  pub main-some : (r : Record) (spare : List ℕ) → Legal ed r
+      → captureReadOf ed (frameOf ed r) spare 0 ≡ Accepted (withOrigin (record { tuner = Main; repaired = 0 }) r) 0
+  pub spare-some : (r : Record) → Legal ed r → captureReadOf ed [] (frameOf ed r) 0 ≡ Accepted (withOrigin (record { tuner = Spare; repaired = 0 }) r) 0

@@ -28,7 +28,7 @@ use Rattle.place.specs.declared.Place.{Place}
 use Rattle.place.specs.declared.Fields.{Fields}
 use Rattle.place.specs.declared.Conversion.{Conversion}
 use Rattle.place.specs.declared.Conversion.the-variants as conversion
-use Rattle.desk_record.specs.DeskRecord.{placeRecord, judged, madeOf, deskRecordOf}
+use Rattle.desk_record.specs.DeskRecord.{placeRecord, judged, deskAnswer, deskRecordOf}
 use Rattle.desk_record.specs.Promises.{Fits}
 use Rattle.desk_record.specs.declared.DeskWarning.{DeskWarning}
 use Rattle.desk_record.specs.declared.DeskRecord.the-variants.{Made, Refused}
@@ -135,12 +135,12 @@ module _ (ed : Edition) (w : DeskWarning) where
 module _ (ed : Edition) (w : DeskWarning) (p : Place) (c : Conversion) (ec : c ≡ conversionOf p) where
   pub by-place : (n : ℕ) → c ≡ conversion.Refused n → Refused n ≡ deskRecordOf ed w p
   unfolding deskRecordOf
-  by-place n q = ap (madeOf ed w) (sym q ∙ ec)
+  by-place n q = ap (deskAnswer ed w) (sym q ∙ ec)
 
   module _ (f : Fields) (r : Record) (m : ℕ) (q : c ≡ conversion.Converted f) (er : r ≡ placeRecord w f) (em : m ≡ recordRefusal ed r) where
     by-writer : judged ed r ≡ deskRecordOf ed w p
     unfolding deskRecordOf
-    by-writer = ap (judged ed) er ∙ ap (madeOf ed w) (sym q ∙ ec)
+    by-writer = ap (judged ed) er ∙ ap (deskAnswer ed w) (sym q ∙ ec)
 
     pub by-refusal : m ≢ 0 → Refused m ≡ deskRecordOf ed w p
     by-refusal h = ap Refused em ∙ sym (rw (ne-eqb (recordRefusal ed r) 0 (λ z. h (em ∙ z)))) ∙ by-writer

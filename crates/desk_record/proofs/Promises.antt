@@ -2,15 +2,17 @@
 use mathlib.Core.Path.{_≡_, refl, sym, ap, _∙_, subst}
 use mathlib.Core.Bool.{Bool, true, false}
 use mathlib.Core.Logic.{_≢_, _⊎_, inl, inr}
+use mathlib.Core.List.{[]}
 use Prim.Native.Nat.{ℕ}
 use native.Mathlib.Omega.{arith}
 use lib.Dec.{eqb}
 use borrow.Author.Tests.{eqb-true, eqb-false}
+use Rattle.frame.specs.Fields.{fields}
 use Rattle.frame.specs.Write.{Legal, recordRefusal}
 use Rattle.frame.specs.declared.Edition.{Edition}
 use Rattle.frame.specs.declared.Record.{Record}
 use Rattle.place.specs.Degrees.{placeOf}
-use Rattle.place.specs.Desk.{conversionOf, conversionNumber}
+use Rattle.place.specs.Desk.{Allowed, conversionOf, conversionNumber}
 use Rattle.place.specs.declared.Place.{Place}
 use Rattle.place.specs.declared.Fields.{Fields}
 use Rattle.place.specs.declared.Conversion.{Conversion}
@@ -19,9 +21,10 @@ use Rattle.place.proofs.Promises.{degrees-laws}
 use Rattle.report.specs.Report.{reportOf}
 use Rattle.report.specs.Promises.{reportsPlace}
 use Rattle.report.proofs.Promises.{reports}
-use Rattle.desk_record.specs.DeskRecord.{placeRecord, judged, madeOf, deskRecordOf, deskRecordNumber}
+use Rattle.desk_record.specs.DeskRecord.{placeRecord, judged, deskAnswer, deskRecordOf, deskRecordNumber, deskRecordFields}
 use Rattle.desk_record.specs.Promises.{Fits, MadeOf, DeskRecords}
 use Rattle.desk_record.specs.declared.DeskWarning.{DeskWarning}
+use Rattle.desk_record.specs.declared.DeskRecord.{DeskRecord}
 use Rattle.desk_record.specs.declared.DeskRecord.the-variants.{Made, Refused}
 use Rattle.desk_record.proofs.DeskRecords.{judged-legal, judged-refused, fits-legal, legal-fits, legal-body, not-nine}
 
@@ -29,12 +32,12 @@ module _ (ed : Edition) (w : DeskWarning) (p : Place) where
   -- a place that has field values
   placed : (f : Fields) → conversionOf p ≡ conversion.Converted f → deskRecordOf ed w p ≡ judged ed (placeRecord w f)
   unfolding deskRecordOf
-  placed f e = ap (madeOf ed w) e
+  placed f e = ap (deskAnswer ed w) e
 
   -- and one that has none
   unplaced : (n : ℕ) → conversionOf p ≡ conversion.Refused n → deskRecordOf ed w p ≡ Refused n
   unfolding deskRecordOf
-  unplaced n e = ap (madeOf ed w) e
+  unplaced n e = ap (deskAnswer ed w) e
 
   eleven-first : conversionNumber (conversionOf p) ≡ 11 → deskRecordOf ed w p ≡ Refused 11
   eleven-first e = unplaced 11 (degrees-laws .refused p e)
@@ -50,6 +53,13 @@ module _ (ed : Edition) (w : DeskWarning) (p : Place) where
 
   made : (f : Fields) → Fits w → conversionOf p ≡ conversion.Converted f → deskRecordOf ed w p ≡ Made (placeRecord w f)
   made f h e = placed f e ∙ judged-legal ed w f (fits-legal ed w f h (degrees-laws .placed-only p f e .0))
+
+  refused-told : deskRecordNumber (deskRecordOf ed w p) ≢ 0 → deskRecordFields (deskRecordOf ed w p) ≡ []
+  refused-told h = go (deskRecordOf ed w p) refl
+    where
+      go : (a : DeskRecord) → deskRecordOf ed w p ≡ a → deskRecordFields (deskRecordOf ed w p) ≡ []
+      go (Made r) e = absurd (h (ap deskRecordNumber e))
+      go (Refused n) e = ap deskRecordFields e
 
   -- what the place became decides
   never-nine : deskRecordNumber (deskRecordOf ed w p) ≢ 9
@@ -96,12 +106,17 @@ module _ (ed : Edition) (w : DeskWarning) (p : Place) where
       go (conversion.Refused n) c = let same = sym (unplaced n c) ∙ e in let z : _≡_ {A = ℕ} 0 1 = cc in absurd (omega arith)
 
 module _ (ed : Edition) where
+  made-every : (w : DeskWarning) (f : Fields) → Fits w → Allowed f → deskRecordFields (deskRecordOf ed w (placeOf f)) ≡ fields (placeRecord w f)
+  made-every w f h a = ap deskRecordFields (made ed w (placeOf f) f h (degrees-laws .back-again f a))
+
   pub desk-records : DeskRecords ed
   desk-records =
       record {
         eleven-first = eleven-first ed;
         then-the-writers = then-the-writers ed;
         never-nine = never-nine ed;
+        refused-told = refused-told ed;
         made = made ed;
+        made-every = made-every;
         made-only = made-only ed;
       }

@@ -1,8 +1,9 @@
 -- A record that is made at the desk (document 01, "The place in degrees"; document 02, j), judged by the edition named. Assumes nothing.
 use mathlib.Core.Bool.{cond}
+use mathlib.Core.List.{List, []}
 use Prim.Native.Nat.{ℕ}
 use lib.Dec.{eqb}
-use Rattle.frame.specs.Fields.{noOrigin}
+use Rattle.frame.specs.Fields.{fields, noOrigin}
 use Rattle.frame.specs.Write.{recordRefusal}
 use Rattle.frame.specs.declared.Edition.{Edition}
 use Rattle.frame.specs.declared.Record.{Record}
@@ -46,15 +47,19 @@ abbrev pub judged : Edition → Record → DeskRecord
 judged ed r = cond (eqb (recordRefusal ed r) 0) (Made r) (Refused (recordRefusal ed r))
 
 -- of what the place became: its refusal, 11, comes first
-abbrev pub madeOf : Edition → DeskWarning → Conversion → DeskRecord
-madeOf ed w (conversion.Converted f) = judged ed (placeRecord w f)
-madeOf ed w (conversion.Refused n) = Refused n
+abbrev pub deskAnswer : Edition → DeskWarning → Conversion → DeskRecord
+deskAnswer ed w (conversion.Converted f) = judged ed (placeRecord w f)
+deskAnswer ed w (conversion.Refused n) = Refused n
 
 -- what `make` answers
 unfoldable pub deskRecordOf : Edition → DeskWarning → Place → DeskRecord
-deskRecordOf ed w p = madeOf ed w (conversionOf p)
+deskRecordOf ed w p = deskAnswer ed w (conversionOf p)
 
--- the documents' number of an answer: 0 where there is a record
+-- the documents' number and values of an answer: 0 with the record's fields, or the refusal's number and nothing else
 abbrev pub deskRecordNumber : DeskRecord → ℕ
 deskRecordNumber (Made r) = 0
 deskRecordNumber (Refused n) = n
+
+abbrev pub deskRecordFields : DeskRecord → List ℕ
+deskRecordFields (Made r) = fields r
+deskRecordFields (Refused n) = []

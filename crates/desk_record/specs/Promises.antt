@@ -2,19 +2,20 @@
 -- nothing.
 use mathlib.Core.Path.{_≡_}
 use mathlib.Core.Logic.{_≢_}
+use mathlib.Core.List.{[]}
 use Prim.Native.Nat.{_^_, _≤_, _<_}
-use Rattle.frame.specs.Fields.{noOrigin}
+use Rattle.frame.specs.Fields.{fields, noOrigin}
 use Rattle.frame.specs.Write.{Legal, recordRefusal}
 use Rattle.frame.specs.declared.Edition.{Edition}
 use Rattle.frame.specs.declared.Record.{Record}
 use Rattle.place.specs.Degrees.{placeOf}
-use Rattle.place.specs.Desk.{SameBits, conversionOf, conversionNumber}
+use Rattle.place.specs.Desk.{Allowed, SameBits, conversionOf, conversionNumber}
 use Rattle.place.specs.declared.Place.{Place}
 use Rattle.place.specs.declared.Fields.{Fields}
 use Rattle.place.specs.declared.Conversion.the-variants.{Converted}
 use Rattle.report.specs.Report.{reportOf}
 use Rattle.report.specs.Promises.{reportsPlace}
-use Rattle.desk_record.specs.DeskRecord.{placeRecord, deskRecordOf, deskRecordNumber}
+use Rattle.desk_record.specs.DeskRecord.{placeRecord, deskRecordOf, deskRecordNumber, deskRecordFields}
 use Rattle.desk_record.specs.declared.DeskWarning.{DeskWarning}
 use Rattle.desk_record.specs.declared.DeskRecord.the-variants.{Made, Refused}
 
@@ -49,7 +50,11 @@ pub record DeskRecords (ed : Edition) : Type 0 where
       → deskRecordNumber (deskRecordOf ed w p) ≡ recordRefusal ed (placeRecord w f)
   -- 9 is never among them, since no place over a limit has an image
   pub never-nine : (w : DeskWarning) (p : Place) → deskRecordNumber (deskRecordOf ed w p) ≢ 9
+  -- a refusal tells its number and nothing else
+  pub refused-told : (w : DeskWarning) (p : Place) → deskRecordNumber (deskRecordOf ed w p) ≢ 0 → deskRecordFields (deskRecordOf ed w p) ≡ []
   -- a record is made wherever the place has field values and the rest fits
   pub made : (w : DeskWarning) (p : Place) (f : Fields) → Fits w → conversionOf p ≡ Converted f → deskRecordOf ed w p ≡ Made (placeRecord w f)
+  -- so of everything that fits, with every allowed place
+  pub made-every : (w : DeskWarning) (f : Fields) → Fits w → Allowed f → deskRecordFields (deskRecordOf ed w (placeOf f)) ≡ fields (placeRecord w f)
   -- and only there
   pub made-only : (w : DeskWarning) (p : Place) (r : Record) → deskRecordOf ed w p ≡ Made r → MadeOf ed w p r

@@ -25,7 +25,7 @@ use Rattle.follower.specs.declared.Follower.the-variants.{Quiet, Active}
 use Rattle.follower_events.specs.Events.{kindOf}
 use Rattle.follower.specs.Follow.{informs, stepSeen, seenOf, stepOf, eventNumber}
 
--- the frame f is accepted, from any tuner, and has information of kind k with the update number u
+-- the frame f is accepted, told some tuner (which one does not matter: `any-tuner`), and has information of kind k with the update number u
 pub record Informs (ed : Edition) (f : List ℕ) (k : Kind) (u : ℕ) : Type 0 where
   pub tuner : Tuner
   pub message : Record
@@ -35,7 +35,7 @@ pub record Informs (ed : Edition) (f : List ℕ) (k : Kind) (u : ℕ) : Type 0 w
   pub kind : kindOf (message .identification) ≡ k
   pub update : message .update ≡ u
 
--- the frame f is accepted, from any tuner, and says that there is no information
+-- the frame f is accepted, told some tuner (which one does not matter: `any-tuner`), and says that there is no information
 pub record Silences (ed : Edition) (f : List ℕ) : Type 0 where
   pub tuner : Tuner
   pub message : Record

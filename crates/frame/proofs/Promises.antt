@@ -31,7 +31,7 @@ use Rattle.frame.specs.Fields.{fields, noOrigin, recordFrom, withOrigin,
 use Rattle.frame.specs.Read.{identificationIn, bodyIn, valuesIn, recordIn, syncBits, syncIn, afterRepair, frameRefusal, placesIn, judgeOf, readOf, readingNumber, readingTuner, readingPlaces, readingDiffering, readingFields, cleanOf}
 use Rattle.frame.specs.Area.{warnedIn}
 use Rattle.frame.specs.Write.{Legal, messageBits, recordRefusal, frameOf, writeNumber, writeOf}
-use Rattle.frame.specs.Promises.{HitFrame, hitFrame, Mended, ComesBack, Told, Demand2, Origins, AreasOnAir, BitNumbers}
+use Rattle.frame.specs.Promises.{HitFrame, hitFrame, Mended, ComesBack, Told, Demand2, Origins, SameRecords, AreasOnAir, BitNumbers}
 use Rattle.frame.specs.declared.Edition.{Edition}
 use Rattle.frame.specs.declared.Record.{Record}
 use Rattle.frame.specs.declared.Tuner.{Tuner}
@@ -435,12 +435,14 @@ module _ (ed : Edition) where
         tuner-told = λ t f r d e. read-origin t f r d e .0;
         other-tuner = λ t u f r d e. other-tuner t f r d e u;
         other-refused = other-refused;
-        same-whole = same-whole;
-        same-some = λ o r. (sym (from-fields o r), from-origin o r);
         same-legal = same-legal ed;
         same-written = same-written ed;
-        same-warned = same-warned;
       }
+
+-- ---- the same fields
+
+pub same-records : SameRecords
+same-records = record { same-whole = same-whole; same-some = λ o r. (sym (from-fields o r), from-origin o r); same-warned = same-warned }
 
 -- ---- the bit numbers
 

@@ -111,7 +111,7 @@ readOf ed t f =
     (Accepted (withOrigin (originIn ed t f) (contentsIn ed f)) (fittingDiffering (syncIn f)))
     (Refused (frameRefusal ed f))
 
--- the documents' number and values of a reading: 0 with the record, of which its fields and its repaired places are told, and the differing bits; or the
+-- the documents' number and values of a reading: 0 with the record's fields, its tuner and its repaired places, and with the differing bits; or the
 -- refusal's number and nothing else
 abbrev pub readingNumber : Reading → ℕ
 readingNumber (Accepted r d) = 0

@@ -50,7 +50,8 @@ fn record(r: Record) {
     }
 }
 
-// A small number, as a refusal's or of places.
+// A small number, as a refusal's or of places. That a field of a record fits its type is no longer found where a `match` has bound the record, but where
+// it is handed over.
 fn count(n: u8) {
     number(n as u64);
 }

@@ -1,7 +1,7 @@
 -- `capture_reader::read` meets its contract. Assumes nothing.
 use denote.Ref.{now}
 use borrow.Author.Needs.{needs}
-use Rattle.capture_reader.proofs.CaptureReads.{by-main, by-spare, by-neither}
+use Rattle.capture_reader.proofs.CaptureReads.{read-main, read-spare, read-neither}
 use Rattle.capture_reader.proofs.read.Statement.{statement}
 use Rattle.capture_reader.proofs.read.Tie as tie
 
@@ -27,7 +27,7 @@ returns : tie.Need-returns
 returns c =
     let a = c .before .before .before in
     let s = a .before .before .before .args in
-    by-main (s .edition) (now (s .main)) (now (s .spare)) (s .n) _ _ _ (a .read-at .ensures) (c .before .contents .given .1)
+    read-main (s .edition) (now (s .main)) (now (s .spare)) (s .n) _ _ _ (a .read-at .ensures) (c .before .contents .given .1)
 
 returns-2 : tie.Need-returns-2
 returns-2 c =
@@ -35,7 +35,7 @@ returns-2 c =
     let first = b .before .before in
     let a = first .before .before in
     let s = a .before .before .before .args in
-    by-spare (s .edition) (now (s .main)) (now (s .spare)) (s .n) _ _ _ _ _ (a .read-at .ensures) (first .first .given .1) (b .read-at2 .ensures) (c .before .contents2 .given .1)
+    read-spare (s .edition) (now (s .main)) (now (s .spare)) (s .n) _ _ _ _ _ (a .read-at .ensures) (first .first .given .1) (b .read-at2 .ensures) (c .before .contents2 .given .1)
 
 returns-3 : tie.Need-returns-3
 returns-3 c =
@@ -43,7 +43,7 @@ returns-3 c =
     let first = b .before .before in
     let a = first .before .before in
     let s = a .before .before .before .args in
-    by-neither (s .edition) (now (s .main)) (now (s .spare)) (s .n) _ _ _ _ (a .read-at .ensures) (first .first .given .1) (b .read-at2 .ensures) (c .before .second .given .1)
+    read-neither (s .edition) (now (s .main)) (now (s .spare)) (s .n) _ _ _ _ (a .read-at .ensures) (first .first .given .1) (b .read-at2 .ensures) (c .before .second .given .1)
 
 pub read-spec : {M : Type 1} → statement M
 read-spec =
