@@ -1,8 +1,8 @@
-//! The warning frame (document 01, "The frame, bit by bit" and "When the box says no"; document 02, "The area safety edition", "Damaged
-//! synchronising bits" and "The record must say where it came from").
+//! The warning frame (document 01, "The frame, bit by bit" and "When the box says no"; document 02, "The area safety edition", "Doubtful marks",
+//! "Damaged synchronising bits" and "The record must say where it came from").
 use crate::code::{encode, frame_of};
 use crate::crc::crc10;
-use crate::{bit, get, put, repair, FRAME_BYTES};
+use crate::{bit, get, put, repair, repair_marked, Repaired, FRAME_BYTES};
 use std::ops::RangeInclusive;
 
 /// "The caller names the edition wherever a frame or record is judged."
@@ -91,7 +91,8 @@ pub const BROADCASTER: usize = 17;
 pub const REGION: usize = 18;
 /// The number of the tuner that the reader was told; "The writer ignores both", this and the next, so any number may stand here.
 pub const TUNER: usize = 19;
-/// "the number of repaired places": those of B17 to B203, as document 02, e) says: "the repaired places ... do not change".
+/// "the number of repaired places": those of B17 to B203, as document 02, e) says: "the repaired places ... do not change". With marks those that are
+/// unmarked, as d) says: "The count reported is t."
 pub const REPAIRED: usize = 20;
 
 /// "B1..B16: 0011010111101110 (pattern 0) or its complement (pattern 1)."
@@ -102,7 +103,7 @@ const MOST_DIFFERING: u8 = 3;
 
 /// What was put right in an accepted frame.
 struct Damage {
-    /// How many places of B17 to B203 were repaired.
+    /// How many places of B17 to B203 were repaired; with marks, how many unmarked ones.
     repaired: u8,
     /// How many bits of B1 to B16 differed from the pattern; they are not among the repaired places.
     differing: u8,
@@ -253,9 +254,16 @@ fn pattern_of(frame: &[u8]) -> Result<(usize, u8), u8> {
     Err(3)
 }
 
-/// An accepted frame with its damage put right, and that damage; or the refusal's number, "tested 1 to 9 in that order". B0 is "carried as
-/// it stands"; "An accepted frame written again has the clean pattern."
-fn accept(edition: Edition, frame: &[u8]) -> Result<([u8; FRAME_BYTES], Damage), u8> {
+/// A frame with its damage put right, and that damage; or the refusal's number.
+type Accepted = Result<([u8; FRAME_BYTES], Damage), u8>;
+
+/// An accepted frame, or the refusal's number, "tested 1 to 9 in that order"; the fourth test and the places are those of the repair that is named.
+/// B0 is "carried as it stands"; "An accepted frame written again has the clean pattern."
+fn accept_by(
+    repair: impl Fn(&[u8]) -> Result<Repaired, u8>,
+    edition: Edition,
+    frame: &[u8],
+) -> Accepted {
     if frame.len() != FRAME_BYTES {
         return Err(1);
     }
@@ -277,9 +285,28 @@ fn accept(edition: Edition, frame: &[u8]) -> Result<([u8; FRAME_BYTES], Damage),
     }
 }
 
+/// By the repair without marks.
+fn accept(edition: Edition, frame: &[u8]) -> Accepted {
+    accept_by(repair, edition, frame)
+}
+
+/// By the repair with marks: "the rule here stands in their place for it", that is in the place of document 01's refusal 4, so that 2 and 3 are
+/// tested before it. "Marks other than 26 bytes are refusal 1", which is tested before all else.
+fn accept_marked(edition: Edition, frame: &[u8], marks: &[u8]) -> Accepted {
+    if marks.len() != FRAME_BYTES {
+        return Err(1);
+    }
+    accept_by(|frame| repair_marked(frame, marks), edition, frame)
+}
+
 /// The number of repaired places, or the refusal's number: "the repaired places, the listing's layout and demand 3 do not change".
 pub fn judge(edition: Edition, frame: &[u8]) -> Result<u8, u8> {
     accept(edition, frame).map(|(_, damage)| damage.repaired)
+}
+
+/// t, since "The count reported is t", and how many bits of B1 to B16 differed; or the refusal's number.
+pub fn judge_marked(edition: Edition, frame: &[u8], marks: &[u8]) -> Result<(u8, u8), u8> {
+    accept_marked(edition, frame, marks).map(|(_, damage)| (damage.repaired, damage.differing))
 }
 
 /// The frame with its damage put right, the pattern's included, or the refusal's number.
@@ -287,18 +314,37 @@ pub fn clean(edition: Edition, frame: &[u8]) -> Result<[u8; FRAME_BYTES], u8> {
     accept(edition, frame).map(|(whole, _)| whole)
 }
 
+/// As `clean`, with what was sent under the marks put right too.
+pub fn clean_marked(edition: Edition, frame: &[u8], marks: &[u8]) -> Result<[u8; FRAME_BYTES], u8> {
+    accept_marked(edition, frame, marks).map(|(whole, _)| whole)
+}
+
 /// The record and how many bits of B1 to B16 differed, or the refusal's number: "the frame reader passes that on beside the record". The tuner is
 /// the one "that the reader is told"; it changes nothing else.
 pub fn read(edition: Edition, tuner: Tuner, frame: &[u8]) -> Result<(Record, u8), u8> {
-    let (whole, damage) = accept(edition, frame)?;
+    accept(edition, frame).map(|(whole, damage)| record_of(tuner, &whole, &damage))
+}
+
+/// As `read`; the record's number of repaired places is t.
+pub fn read_marked(
+    edition: Edition,
+    tuner: Tuner,
+    frame: &[u8],
+    marks: &[u8],
+) -> Result<(Record, u8), u8> {
+    accept_marked(edition, frame, marks).map(|(whole, damage)| record_of(tuner, &whole, &damage))
+}
+
+/// The record of an accepted frame, and its differing bits of B1 to B16.
+fn record_of(tuner: Tuner, whole: &[u8], damage: &Damage) -> (Record, u8) {
     let mut record = [0; VALUES];
-    for field in body_of(&whole).free() {
-        record[field] = get(&whole, PLACES[field].clone());
+    for field in body_of(whole).free() {
+        record[field] = get(whole, PLACES[field].clone());
     }
     record[PATTERN] = u64::from(record[PATTERN] == PATTERNS[1]);
     record[TUNER] = tuner.number();
     record[REPAIRED] = u64::from(damage.repaired);
-    Ok((record, damage.differing))
+    (record, damage.differing)
 }
 
 /// "The frame writer tests its buffer (1), then the identification (6), then 10, then 9": the last three, which do not look at a buffer. Only what

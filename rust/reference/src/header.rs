@@ -1,7 +1,7 @@
 //! The cable multiplex frame header (document 01, "The cable header").
 use crate::crc::crc32;
 use crate::frame::{self, Edition};
-use crate::{bit, get, put};
+use crate::{bit, get, put, FRAME_BYTES};
 use std::ops::RangeInclusive;
 
 pub const HEADER_BYTES: usize = 188;
@@ -156,11 +156,21 @@ fn seal(header: &mut [u8]) {
 /// fully, then the frame", which is judged by the edition named. The pattern laid in is the clean one (document 02, e): "Demand 2's repaired
 /// frame and laying in include this".
 pub fn lay_in(edition: Edition, header: &mut [u8], frame: &[u8]) -> u8 {
+    lay_in_clean(header, || frame::clean(edition, frame))
+}
+
+/// As `lay_in`, with the frame judged and repaired by its marks (document 02, d).
+pub fn lay_in_marked(edition: Edition, header: &mut [u8], frame: &[u8], marks: &[u8]) -> u8 {
+    lay_in_clean(header, || frame::clean_marked(edition, frame, marks))
+}
+
+/// Lays in the clean frame, which is asked for only after the header was tested; a refusal of either leaves the header.
+fn lay_in_clean(header: &mut [u8], clean: impl FnOnce() -> Result<[u8; FRAME_BYTES], u8>) -> u8 {
     let number = refusal(header);
     if number != 0 {
         return number;
     }
-    let clean = match frame::clean(edition, frame) {
+    let clean = match clean() {
         Ok(clean) => clean,
         Err(number) => return number,
     };

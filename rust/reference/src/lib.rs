@@ -1,6 +1,6 @@
 //! A plain version of what the box computes, to compare the proved one with. It was written from document 01, by people who had read the Rattle, and
-//! from document 02, e), a) and j) (damaged synchronising bits, the area safety edition, and where a record came from), each by one who had not read
-//! the proved version: the two have no code in common, but what was read wrongly in the documents may be wrong in both.
+//! from document 02, e), a), j) and d) (damaged synchronising bits, the area safety edition, where a record came from, and doubtful marks), each by
+//! one who had not read the proved version: the two have no code in common, but what was read wrongly in the documents may be wrong in both.
 pub mod capture;
 pub mod code;
 pub mod crc;
@@ -10,8 +10,10 @@ pub mod header;
 pub mod listing;
 pub mod place;
 
+mod marked;
 mod repair;
 
+pub use marked::repair_marked;
 pub use repair::{repair, Repaired};
 
 /// The bytes of a frame.

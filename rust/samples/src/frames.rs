@@ -80,32 +80,7 @@ pub fn open(bytes: [u8; FRAME_BYTES]) -> Sample {
 /// makes of it is known too.
 pub fn faulty(edition: Edition, faults: &[u8], random: &mut Random) -> Sample {
     let has = |fault: u8| faults.contains(&fault);
-    let body = match (has(8), has(9)) {
-        (_, true) => Body::Place,
-        (true, _) => random.pick(&FIXING),
-        _ => random.pick(bodies(edition)),
-    };
-    let record = legal_record(body, random);
-    let mut frame = written(&record);
-    if has(6) {
-        put(&mut frame, 21..=23, undefined(edition, random));
-    }
-    if has(7) {
-        let wrong = match record[IDENTIFICATION] {
-            7 => random.up_to(14),
-            _ => (1 + random.up_to(2)) << 2 | get(&frame, 19..=20),
-        };
-        put(&mut frame, 17..=20, wrong);
-    }
-    if has(8) {
-        clear_fixed(body, &mut frame, random);
-    }
-    if has(9) {
-        exceed_limits(&mut frame, random);
-    }
-    let read = EDITIONS.map(|edition| reading(edition, faults, &record, &frame));
-    let crc_fault = if has(5) { 1 + random.up_to(1022) } else { 0 };
-    let mut frame = sealed(frame, crc_fault);
+    let (mut frame, read) = sent(edition, faults, random);
     let hits = match (has(4), random.below(2)) {
         (true, _) => 9 + random.below(6),
         (_, 0) => 0,
@@ -133,6 +108,42 @@ pub fn faulty(edition: Edition, faults: &[u8], random: &mut Random) -> Sample {
         Err(number) => Expected::Refused(number),
     });
     Sample { bytes, expected }
+}
+
+/// A frame as it is sent, which has those of these faults that stand in a code word, 5 to 9; and what each edition makes of it, if it has the others
+/// too.
+pub fn sent(
+    edition: Edition,
+    faults: &[u8],
+    random: &mut Random,
+) -> ([u8; FRAME_BYTES], [Result<Record, u8>; 2]) {
+    let has = |fault: u8| faults.contains(&fault);
+    let body = match (has(8), has(9)) {
+        (_, true) => Body::Place,
+        (true, _) => random.pick(&FIXING),
+        _ => random.pick(bodies(edition)),
+    };
+    let record = legal_record(body, random);
+    let mut frame = written(&record);
+    if has(6) {
+        put(&mut frame, 21..=23, undefined(edition, random));
+    }
+    if has(7) {
+        let wrong = match record[IDENTIFICATION] {
+            7 => random.up_to(14),
+            _ => (1 + random.up_to(2)) << 2 | get(&frame, 19..=20),
+        };
+        put(&mut frame, 17..=20, wrong);
+    }
+    if has(8) {
+        clear_fixed(body, &mut frame, random);
+    }
+    if has(9) {
+        exceed_limits(&mut frame, random);
+    }
+    let read = EDITIONS.map(|edition| reading(edition, faults, &record, &frame));
+    let crc_fault = if has(5) { 1 + random.up_to(1022) } else { 0 };
+    (sealed(frame, crc_fault), read)
 }
 
 /// An identification that is undefined in this edition.
@@ -326,7 +337,7 @@ pub fn hit(frame: &mut [u8], count: usize, random: &mut Random) {
 }
 
 /// Turns over this many of B1 to B16.
-fn flip_pattern(frame: &mut [u8], count: usize, random: &mut Random) {
+pub fn flip_pattern(frame: &mut [u8], count: usize, random: &mut Random) {
     let places: [usize; 16] = std::array::from_fn(|i| 1 + i);
     for k in random.choose(count, &places) {
         flip_bit(frame, k);
@@ -369,7 +380,7 @@ fn exceed_limits(frame: &mut [u8], random: &mut Random) {
 }
 
 /// Any bytes, if asked with a pattern and the filler.
-fn noise(framed: bool, random: &mut Random) -> [u8; FRAME_BYTES] {
+pub fn noise(framed: bool, random: &mut Random) -> [u8; FRAME_BYTES] {
     let mut frame = std::array::from_fn(|_| random.number() as u8);
     if framed {
         let legal = written(&legal_record(Body::Areas, random));

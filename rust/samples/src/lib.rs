@@ -1,10 +1,11 @@
-//! Frames, captures, records, headers, doubles and what a desk gives, to try the two versions on, each made from a seed: the same seed gives the same
-//! sample.
+//! Frames, frames with marks, captures, records, headers, doubles and what a desk gives, to try the two versions on, each made from a seed: the same
+//! seed gives the same sample.
 pub mod captures;
 pub mod desks;
 pub mod doubles;
 pub mod frames;
 pub mod headers;
+pub mod marked;
 pub mod records;
 
 use reference::code::{encode, frame_of, Word, DEGREE, GENERATOR, LENGTH, MESSAGE};
