@@ -16,23 +16,23 @@ use Rattle.dsc.proofs.Distance.{only-one}
 
 -- ---- what holds of every word of a list
 
-abbrev All : (List Bool → Type 0) → List (List Bool) → Type 0
+abbrev pub All : (List Bool → Type 0) → List (List Bool) → Type 0
 All P [] = Unit {0}
 All P (w ∷ ws) = P w × All P ws
 
-all-append : (P : List Bool → Type 0) (us ws : List (List Bool)) → All P us → All P ws → All P (us ++ ws)
+pub all-append : (P : List Bool → Type 0) (us ws : List (List Bool)) → All P us → All P ws → All P (us ++ ws)
 all-append P [] ws a b = b
 all-append P (u ∷ us) ws a b = (a .0, all-append P us ws (a .1) b)
 
-all-map : (P Q : List Bool → Type 0) (f : List Bool → List Bool) (ws : List (List Bool)) → ((w : List Bool) → P w → Q (f w)) → All P ws → All Q (map f ws)
+pub all-map : (P Q : List Bool → Type 0) (f : List Bool → List Bool) (ws : List (List Bool)) → ((w : List Bool) → P w → Q (f w)) → All P ws → All Q (map f ws)
 all-map P Q f [] g a = tt
 all-map P Q f (w ∷ ws) g a = (g w (a .0), all-map P Q f ws g (a .1))
 
-all-weaker : (P Q : List Bool → Type 0) (ws : List (List Bool)) → ((w : List Bool) → P w → Q w) → All P ws → All Q ws
+pub all-weaker : (P Q : List Bool → Type 0) (ws : List (List Bool)) → ((w : List Bool) → P w → Q w) → All P ws → All Q ws
 all-weaker P Q [] g a = tt
 all-weaker P Q (w ∷ ws) g a = (g w (a .0), all-weaker P Q ws g (a .1))
 
-mem-map : (f : List Bool → List Bool) (w : List Bool) (ws : List (List Bool)) → List·Memᴰ w ws → List·Memᴰ (f w) (map f ws)
+pub mem-map : (f : List Bool → List Bool) (w : List Bool) (ws : List (List Bool)) → List·Memᴰ w ws → List·Memᴰ (f w) (map f ws)
 mem-map f w [] m = absurd (List·Memᴰ·not-nil m)
 mem-map f w (x ∷ ws) m = go (List·Memᴰ·cases-cons m) (mem-map f w ws)
   where
@@ -43,7 +43,7 @@ mem-map f w (x ∷ ws) m = go (List·Memᴰ·cases-cons m) (mem-map f w ws)
 -- ---- the ball holds the words within t places, and no others
 
 -- w has as many bits as r and differs from it in at most t places
-abbrev Within : ℕ → List Bool → List Bool → Type 0
+abbrev pub Within : ℕ → List Bool → List Bool → Type 0
 Within t r w = (length w ≡ length r) × (dist r w ≤ t)
 
 within-same : (t : ℕ) (b : Bool) (r w : List Bool) → Within t r w → Within t (b ∷ r) (b ∷ w)
@@ -56,7 +56,7 @@ unfolding add digit
 within-other t true r w h = (ap suc (h .0), omega (arith, h .1))
 within-other t false r w h = (ap suc (h .0), omega (arith, h .1))
 
-ball-within : (t : ℕ) (r : List Bool) → All (Within t r) (ball t r)
+pub ball-within : (t : ℕ) (r : List Bool) → All (Within t r) (ball t r)
 unfolding ball add
 ball-within zero [] = ((refl, omega arith), tt)
 ball-within (suc t) [] = ((refl, omega arith), tt)
@@ -75,7 +75,7 @@ other-first : (t : ℕ) (b : Bool) (r w : List Bool) → List·Memᴰ w (ball t 
 unfolding ball
 other-first t b r w m = Memᴰ·append-right (map (b ∷_) (ball (suc t) r)) (mem-map (not b ∷_) w (ball t r) m)
 
-in-ball : (t : ℕ) (r w : List Bool) → Within t r w → List·Memᴰ w (ball t r)
+pub in-ball : (t : ℕ) (r w : List Bool) → Within t r w → List·Memᴰ w (ball t r)
 unfolding ball add digit
 in-ball zero [] [] h = List·Memᴰ·head refl
 in-ball (suc t) [] [] h = List·Memᴰ·head refl
@@ -90,15 +90,15 @@ in-ball (suc t) (false ∷ r) (true ∷ w) h = other-first t false r w (in-ball 
 
 -- ---- the first code word of a list
 
-abbrev found : Decoded → List Bool
+abbrev pub found : Decoded → List Bool
 found (corrected c) = c
 found beyond = []
 
-abbrev isFound : Decoded → Bool
+abbrev pub isFound : Decoded → Bool
 isFound (corrected c) = true
 isFound beyond = false
 
-first-found : (c : List Bool) (ws : List (List Bool)) → isCodeWord c ≡ true → List·Memᴰ c ws → All (λ w. isCodeWord w ≡ true → w ≡ c) ws → firstCodeWord ws ≡ corrected c
+pub first-found : (c : List Bool) (ws : List (List Bool)) → isCodeWord c ≡ true → List·Memᴰ c ws → All (λ w. isCodeWord w ≡ true → w ≡ c) ws → firstCodeWord ws ≡ corrected c
 unfolding firstCodeWord
 first-found c [] k m a = absurd (List·Memᴰ·not-nil m)
 first-found c (w ∷ ws) k m a = go (isCodeWord w) refl (List·Memᴰ·cases-cons m) (λ m. first-found c ws k m (a .1))
@@ -108,7 +108,7 @@ first-found c (w ∷ ws) k m a = go (isCodeWord w) refl (List·Memᴰ·cases-con
     go false e (inl q) ih = absurd (true≢false (sym k ∙ ap isCodeWord q ∙ e))
     go false e (inr m) ih = ih m
 
-first-none : (ws : List (List Bool)) → All (λ w. isCodeWord w ≡ true → ⊥) ws → firstCodeWord ws ≡ beyond
+pub first-none : (ws : List (List Bool)) → All (λ w. isCodeWord w ≡ true → ⊥) ws → firstCodeWord ws ≡ beyond
 unfolding firstCodeWord
 first-none [] a = refl
 first-none (w ∷ ws) a = go (isCodeWord w) refl (first-none ws (a .1))
@@ -117,7 +117,7 @@ first-none (w ∷ ws) a = go (isCodeWord w) refl (first-none ws (a .1))
     go true e ih = absurd (a .0 e)
     go false e ih = ih
 
-first-code-word : (P : List Bool → Type 0) (ws : List (List Bool)) (c : List Bool) → All P ws → firstCodeWord ws ≡ corrected c → P c × (isCodeWord c ≡ true)
+pub first-code-word : (P : List Bool → Type 0) (ws : List (List Bool)) (c : List Bool) → All P ws → firstCodeWord ws ≡ corrected c → P c × (isCodeWord c ≡ true)
 unfolding firstCodeWord
 first-code-word P [] c a e = absurd (true≢false (sym (ap isFound e)))
 first-code-word P (w ∷ ws) c a e = go (isCodeWord w) refl e (first-code-word P ws c (a .1))

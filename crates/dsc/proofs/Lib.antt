@@ -6,9 +6,12 @@ pub mod EvenRows
 pub mod Weight
 pub mod Distance
 pub mod Decoding
+pub mod MarkedDecoding
 pub mod Answers
+pub mod MarkedAnswers
 pub mod Majority
 pub mod BeyondEight
 pub mod Encoding
 pub mod Promises
+pub mod DoubtfulMarks
 pub mod Worked

@@ -1,15 +1,17 @@
--- What this crate promises, in the words of demand 3. Each record has one value, proved in proofs/Promises.antt.
+-- What this crate promises, in the words of demand 3 and of document 02, d). Each record has one value, proved in proofs/Promises.antt and
+-- proofs/DoubtfulMarks.antt.
 -- Assumes nothing.
 use mathlib.Core.Path.{_≡_}
 use mathlib.Core.Bool.{Bool, true, false, _&&_}
-use mathlib.Core.Logic.{_≢_}
+use mathlib.Core.Logic.{_≢_, _⊎_}
 use mathlib.Core.List.{List, _++_}
-use Prim.Native.Nat.{ℕ, _+_, _≤_, _<_}
+use Prim.Native.Nat.{ℕ, _+_, _*_, _≤_, _<_}
 use lib.ListN.{length, take, replicate}
 use Rattle.gf2.specs.Polynomial.{zeros, member, add}
 use Rattle.dsc.specs.Code.{CodeWord, count, weight, dist, parityOf}
 use Rattle.dsc.specs.CheckTable.{row, CheckTable, rowAt, upto, syndrome}
-use Rattle.dsc.specs.Repair.{protected, wordBytes, repairedTo, refusedWith, numberOf, repairOf, Repairs}
+use Rattle.dsc.specs.Repair.{protected, wordBytes, repairedTo, refusedWith, numberOf, repairOf, Repairs, ball}
+use Rattle.dsc.specs.Marks.{unmarkedIn, unmarkedDist, Few, markedBall, markedRepairOf}
 use Rattle.dsc.specs.Encoding.{messageOf, encodeOf}
 use Rattle.dsc.specs.Worked.{generatorWord, among, firstPlaces}
 use Rattle.dsc.specs.declared.Answer.{Answer}
@@ -77,6 +79,59 @@ pub record BeyondEight : Type 0 where
   pub ten-wrong-some : HitWord 10 (zeros 187) (firstPlaces 10) (wordBytes (firstPlaces 10)) × (among (firstPlaces 10) generatorWord ≡ true)
   pub ten-refused : (f : List ℕ) → HitWord 10 (zeros 187) firstTen f → repairOf f ≡ refusedWith 4
   pub ten-refused-some : HitWord 10 (zeros 187) firstTen (wordBytes firstTen)
+
+-- ---- doubtful marks
+
+-- the frame f and the marks m have 26 bytes; f holds the code word c, hit in the places of e: in any under the s marks that are set, and in t others
+pub record HitMarked (t s : ℕ) (c e : List Bool) (f m : List ℕ) : Type 0 where
+  pub size : length f ≡ 26
+  pub marks-size : length m ≡ 26
+  pub sent : CodeWord c
+  pub places : length e ≡ 187
+  pub number : weight (unmarkedIn (protected m) e) ≡ t
+  pub marks : weight (protected m) ≡ s
+  pub received : protected f ≡ add e c
+
+-- whichever code word was sent, whatever stood under s marks, and whichever t unmarked places were hit: what is then true of it and the answer
+abbrev pub AfterMarks : (t s : ℕ) → (List Bool → Answer → Type 0) → Type 0
+AfterMarks t s Q = (f m : List ℕ) (c e : List Bool) → HitMarked t s c e f m → Q c (markedRepairOf f m)
+
+-- no code word has 2t+s at most 17
+abbrev pub NoneFew : (marks r : List Bool) → Type 0
+NoneFew ms r = (c : List Bool) → CodeWord c → Few ms (unmarkedDist ms r c) → ⊥
+
+pub record DoubtfulMarks : Type 0 where
+  -- a code word that differs in t unmarked places, with 2t+s at most 17, is the answer, and t the count
+  pub found : (f m : List ℕ) (c : List Bool) → length f ≡ 26 → length m ≡ 26 → CodeWord c → Few (protected m) (unmarkedDist (protected m) (protected f) c)
+      → markedRepairOf f m ≡ repairedTo c (unmarkedDist (protected m) (protected f) c)
+  -- two words with t and u differ in at most t + u + s places; so there is never more than one
+  pub apart : (ms r c d : List Bool) → length ms ≡ 187 → length r ≡ 187 → CodeWord c → CodeWord d
+      → dist c d ≤ unmarkedDist ms r c + unmarkedDist ms r d + weight ms
+  pub only-one : (ms r c d : List Bool) → length ms ≡ 187 → length r ≡ 187 → CodeWord c → CodeWord d → Few ms (unmarkedDist ms r c) → Few ms (unmarkedDist ms r d)
+      → c ≡ d
+  -- refusal 1 exactly when the frame or the marks are not 26 bytes, then 4 exactly when there is none
+  pub short : (f m : List ℕ) → (length f ≢ 26) ⊎ (length m ≢ 26) → markedRepairOf f m ≡ refusedWith 1
+  pub short-if-refused : (f m : List ℕ) → numberOf (markedRepairOf f m) ≡ 1 → (length f ≢ 26) ⊎ (length m ≢ 26)
+  pub refused-if-none : (f m : List ℕ) → length f ≡ 26 → length m ≡ 26 → NoneFew (protected m) (protected f) → markedRepairOf f m ≡ refusedWith 4
+  pub none-if-refused : (f m : List ℕ) → numberOf (markedRepairOf f m) ≡ 4 → (length f ≡ 26) × (length m ≡ 26) × NoneFew (protected m) (protected f)
+  -- the bits under the marks do not matter, nor do those of the frame outside B17 to B203
+  pub under-marks : (f g m : List ℕ) → length f ≡ length g → unmarkedIn (protected m) (protected f) ≡ unmarkedIn (protected m) (protected g)
+      → markedRepairOf f m ≡ markedRepairOf g m
+  -- marks outside B17 to B203 do not matter
+  pub marks-outside : (f m n : List ℕ) → length m ≡ length n → protected m ≡ protected n → markedRepairOf f m ≡ markedRepairOf f n
+  -- with no marks the answer is that of the base, and the words that are tried are those of the base
+  pub no-marks : (f m : List ℕ) → length m ≡ 26 → protected m ≡ zeros 187 → markedRepairOf f m ≡ repairOf f
+  pub no-marks-tried : (t : ℕ) (r : List Bool) → markedBall t (zeros (length r)) r ≡ ball t r
+  -- whichever code word was sent, whatever stood under s marks, and whichever t unmarked places were hit, with 2t+s at most 17: the sent word and t
+  pub gives-sent-word : (t s : ℕ) → 2 * t + s ≤ 17 → AfterMarks t s (λ c a. a ≡ repairedTo c t)
+  -- with more: refusal 4, or a word that is not the sent one, whose count u has 2u+s at most 17 and makes at least 18 with the hits and the marks
+  pub beyond : (t s : ℕ) → 18 ≤ 2 * t + s → AfterMarks t s (RefusedOrWrong (λ u. (2 * u + s ≤ 17) × (18 ≤ t + u + s)))
+  -- at exactly 18, then, and with more than 17 marks: always refusal 4
+  pub eighteen : (t s : ℕ) → 2 * t + s ≡ 18 → AfterMarks t s (λ c a. a ≡ refusedWith 4)
+  pub many-marks : (f m : List ℕ) → length f ≡ 26 → length m ≡ 26 → 18 ≤ weight (protected m) → markedRepairOf f m ≡ refusedWith 4
+  -- every code word, hit in any places and with any marks, is held by a frame: no line above speaks of nothing
+  pub held : (c e ms : List Bool) → CodeWord c → length e ≡ 187 → length ms ≡ 187
+      → HitMarked (weight (unmarkedIn ms e)) (weight ms) c e (wordBytes (add e c)) (wordBytes ms)
 
 -- the code, its check table and its encoder
 pub record CodeLaws : Type 0 where
