@@ -7,7 +7,8 @@ use native.Mathlib.Omega.{arith}
 use lib.ListN.{length, take, drop}
 use lib.Seq.{take-at, drop-append-add}
 use Rattle.dsc.specs.Repair.{repairOf}
-use Rattle.frame.specs.Read.{identificationIn, frameRefusal, judgeOf}
+use Rattle.dsc.specs.Marks.{unmarked}
+use Rattle.frame.specs.Read.{identificationIn, frameRefusal, judgeBy}
 use Rattle.frame.specs.Promises.{NotSafety}
 use Rattle.frame.specs.declared.Edition.{Edition}
 use Rattle.frame.specs.declared.Verdict.{Verdict}
@@ -70,9 +71,9 @@ module _ (ed : Edition) where
       go (by-none m s) = absurd (ne (empty main spare n m s))
 
   alike : (other : Edition) (c : List ℕ) (n : ℕ) → NotSafety (identificationIn (repairOf (partAt c n) .word)) → numberAt ed c n ≡ numberAt other c n
-  unfolding numberAt judgeOf
+  unfolding numberAt judgeBy
   alike other c n h =
-      let same : frameRefusal ed (partAt c n) ≡ frameRefusal other (partAt c n) = ap (λ (v : Verdict). v .number) (editions .frame-alike ed other (partAt c n) h .judged) in
+      let same : frameRefusal ed (partAt c n) ≡ frameRefusal other (partAt c n) = ap (λ (v : Verdict). v .number) (editions .frame-alike ed other unmarked (partAt c n) h .judged) in
       rw same
 
   frame-alike : (other : Edition) (main spare : List ℕ) (n : ℕ) → NotSafety (identificationIn (repairOf (partAt main n) .word))

@@ -8,6 +8,7 @@ use native.Mathlib.Omega.{arith}
 use lib.Dec.{leb}
 use lib.ListN.{length, drop, length-take, length-drop}
 use borrow.Author.Tests.{le-leb, lt-leb, leb-true, leb-false}
+use Rattle.dsc.specs.Marks.{unmarked}
 use Rattle.frame.specs.Read.{frameRefusal, readOf, readingNumber}
 use Rattle.frame.specs.declared.Edition.{Edition}
 use Rattle.frame.specs.declared.Tuner.{Tuner}
@@ -15,7 +16,7 @@ use Rattle.frame.specs.declared.Tuner.the-variants.{None, Main, Spare}
 use Rattle.frame.specs.declared.Record.{Record}
 use Rattle.frame.specs.declared.Reading.{Reading}
 use Rattle.frame.specs.declared.Reading.the-variants as reading
-use Rattle.frame.proofs.Readings.{accepted-judged}
+use Rattle.frame.proofs.Readings.{accepted-judged, judged-size}
 use Rattle.frame.proofs.Promises.{refused-read, demand2}
 use Rattle.capture.specs.Capture.{partAt, numberAt, numbersOf, bytesFrom}
 use Rattle.capture.proofs.Choice.{number-within, number-past, source-main, source-spare, source-none}
@@ -31,11 +32,11 @@ module _ (ed : Edition) where
   -- ---- one tuner
 
   accepted-number : (t : Tuner) (f : List ℕ) (r : Record) (d : ℕ) → readOf ed t f ≡ reading.Accepted r d → frameRefusal ed f ≡ 0
-  accepted-number t f r d e = sym (demand2 ed .number-told t f) ∙ ap readingNumber e
+  accepted-number t f r d e = sym (demand2 ed .number-told unmarked t f) ∙ ap readingNumber e
 
   -- a frame that is read lies in its capture, and is accepted there
   read-within : (t : Tuner) (c : List ℕ) (n : ℕ) (r : Record) (d : ℕ) → readOf ed t (partAt c n) ≡ reading.Accepted r d → 26 * n + 26 ≤ length c
-  read-within t c n r d e = lies c n (accepted-judged ed (partAt c n) (accepted-number t (partAt c n) r d e) .size)
+  read-within t c n r d e = lies c n (judged-size ed unmarked (partAt c n) (accepted-judged ed unmarked (partAt c n) (accepted-number t (partAt c n) r d e)))
 
   pub read-accepted : (t : Tuner) (c : List ℕ) (n : ℕ) (r : Record) (d : ℕ) → readOf ed t (partAt c n) ≡ reading.Accepted r d → numberAt ed c n ≡ 0
   read-accepted t c n r d e = number-within ed c n (read-within t c n r d e) ∙ accepted-number t (partAt c n) r d e
@@ -56,7 +57,7 @@ module _ (ed : Edition) where
       go : (b : Bool) → leb (26 * n + 26) (length c) ≡ b → readingNumber (readingAt ed t c n) ≡ numberAt ed c n
       go true q =
           let h = leb-true (26 * n + 26) (length c) q in
-          ap readingNumber (at-within t c n h) ∙ demand2 ed .number-told t (partAt c n) ∙ sym (number-within ed c n h)
+          ap readingNumber (at-within t c n h) ∙ demand2 ed .number-told unmarked t (partAt c n) ∙ sym (number-within ed c n h)
       go false q =
           let h : length c < 26 * n + 26 = leb-false (26 * n + 26) (length c) q in
           ap readingNumber (at-past t c n h) ∙ sym (number-past ed c n h)
@@ -73,7 +74,7 @@ module _ (ed : Edition) where
   at-refused t c n m e = (sym (at-number t c n) ∙ ap readingNumber e, go (leb (26 * n + 26) (length c)) refl)
     where
       go : (b : Bool) → leb (26 * n + 26) (length c) ≡ b → m ≢ 0
-      go true q = demand2 ed .judged-refused t (partAt c n) m (sym (at-within t c n (leb-true (26 * n + 26) (length c) q)) ∙ e) .0
+      go true q = demand2 ed .judged-refused unmarked t (partAt c n) m (sym (at-within t c n (leb-true (26 * n + 26) (length c) q)) ∙ e) .0
       go false q =
           let one : 1 ≡ m = ap readingNumber (sym (at-past t c n (leb-false (26 * n + 26) (length c) q)) ∙ e) in λ z. omega (arith, one, z)
 
@@ -96,12 +97,12 @@ module _ (ed : Edition) where
 
     -- an empty part is refused
     empty-refused : frameRefusal ed [] ≢ 0
-    empty-refused z = let h : _≡_ {A = ℕ} 0 26 = accepted-judged ed [] z .size in omega (arith, h)
+    empty-refused z = let h : _≡_ {A = ℕ} 0 26 = judged-size ed unmarked [] (accepted-judged ed unmarked [] z) in omega (arith, h)
 
     pub neither : numberAt ed main n ≢ 0 → numberAt ed spare n ≢ 0 → captureReadOf ed main spare n ≡ Refused (numberAt ed main n) (numberAt ed spare n)
     unfolding captureReadOf told-from
     neither m s =
-        ap told-from (source-none ed main spare n m s) ∙ ap (λ (a : Reading). answered a (numbersOf ed main spare n)) (refused-read ed None [] empty-refused)
+        ap told-from (source-none ed main spare n m s) ∙ ap (λ (a : Reading). answered a (numbersOf ed main spare n)) (refused-read ed unmarked None [] empty-refused)
 
     -- as the code comes to them: a is main's reading, b spare's
     pub read-main : (a : Reading) (r : Record) (d : ℕ) → a ≡ readingAt ed Main main n → a ≡ reading.Accepted r d → Accepted r d ≡ captureReadOf ed main spare n

@@ -6,6 +6,7 @@ use Prim.Native.Nat.{ℕ}
 use native.Mathlib.Omega.{arith}
 use lib.Seq.{take-all}
 use Rattle.frame.specs.Fields.{withOrigin}
+use Rattle.dsc.specs.Marks.{unmarked}
 use Rattle.frame.specs.Read.{readOf, readingFields}
 use Rattle.frame.specs.Write.{Legal, frameOf}
 use Rattle.frame.specs.declared.Edition.{Edition}
@@ -57,7 +58,7 @@ module _ (ed : Edition) where
         let t = sourceOf ed main spare n in
         let f = frameAt ed main spare n in
         let read = read-answered (readOf ed t f) (numberAt ed main n) (numberAt ed spare n) r d e in
-        let tuner = origins ed .tuner-told t f r d read in
+        let tuner = origins ed .tuner-told unmarked t f r d read in
         record { tuner = tuner; read = subst (λ (u : Tuner). readOf ed u f ≡ reading.Accepted r d) (sym tuner) read }
 
     some-tuner : (r : Record) (d : ℕ) → captureReadOf ed main spare n ≡ Accepted r d → sourceOf ed main spare n ≢ None

@@ -14,6 +14,7 @@ use Rattle.bits.specs.Segment.{freeWidths}
 use Rattle.frame.specs.Body.{row, layout}
 use Rattle.frame.specs.Fields.{noOrigin, recordFrom, withOrigin, SameFields, scatter, fieldWidths}
 use Rattle.dsc.specs.Repair.{repairOf}
+use Rattle.dsc.specs.Marks.{unmarked}
 use Rattle.frame.specs.Read.{identificationIn, readOf, readingNumber}
 use Rattle.frame.specs.Promises.{NotSafety, ComesBack}
 use Rattle.frame.specs.Write.{Legal, recordRefusal, frameOf}
@@ -97,9 +98,9 @@ module _ (ed : Edition) where
     where
       go : (a : Reading) → readOf ed t f ≡ a → seenOf ed (readOf ed t f) ≡ seenOf ed (readOf ed u f)
       go (Accepted r d) e =
-          let b = origins ed .other-tuner t u f r d e in
+          let b = origins ed .other-tuner unmarked t u f r d e in
           ap (seenOf ed) e ∙ same-seen d r (b .back) (b .same) ∙ ap (seenOf ed) (sym (b .accepted))
-      go (Refused n) e = ap (seenOf ed) (e ∙ sym (origins ed .other-refused t u f n e))
+      go (Refused n) e = ap (seenOf ed) (e ∙ sym (origins ed .other-refused unmarked t u f n e))
 
   any-tuner : (t : Tuner) (s : Follower) (f : List ℕ) → stepOf ed s f ≡ stepSeen s (seenOf ed (readOf ed t f))
   unfolding stepOf
@@ -157,7 +158,7 @@ module _ (ed : Edition) where
       go class.Warning q = inl (record { tuner = t; message = r; differing = d; read = e; class = ap informs q; kind = refl; update = refl })
       go class.SafetyInformation q = inl (record { tuner = t; message = r; differing = d; read = e; class = ap informs q; kind = refl; update = refl })
       go class.Silent q = inr (record { tuner = t; message = r; differing = d; read = e; class = q })
-      go class.Undefined q = absurd (true≢false (sym (ap isUndefined q) ∙ legal-sound ed r (demand2 ed .read-legal t f r d e) .known))
+      go class.Undefined q = absurd (true≢false (sym (ap isUndefined q) ∙ legal-sound ed r (demand2 ed .read-legal unmarked t f r d e) .known))
 
   numbered : (t : Tuner) (s : Follower) (f : List ℕ) → eventNumber (stepOf ed s f .event) ≡ readingNumber (readOf ed t f)
   numbered t s f = go (readOf ed t f) refl
@@ -250,13 +251,13 @@ module _ (ed : Edition) where
   alike other s f n = go (readOf ed None f) refl
     where
       same-read : readOf ed None f ≡ readOf other None f
-      same-read = editions .frame-alike ed other f n .read None
+      same-read = editions .frame-alike ed other unmarked f n .read None
 
       go : (a : Reading) → readOf ed None f ≡ a → stepSeen s (seenOf ed (readOf ed None f)) ≡ stepSeen s (seenOf other (readOf other None f))
       go (Accepted r d) e =
           let i = r .identification in
           let class : classOf ed i ≡ classOf other i =
-          class-alike ed other i (subst NotSafety (sym (read-identification ed None f r d e)) n) in
+          class-alike ed other i (subst NotSafety (sym (read-identification ed unmarked None f r d e)) n) in
           rw (sym same-read, e, class)
       go (Refused m) e = rw (sym same-read, e)
 

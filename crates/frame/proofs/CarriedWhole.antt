@@ -13,11 +13,11 @@ use Rattle.bits.specs.Layout.{Fit, pack, unpack}
 use Rattle.bits.specs.Refusal.{firstRefusal, orElse}
 use Rattle.bits.specs.Segment.{widths, freeWidths, fixedHold, withFixed, packSegments, fixedBitsHold}
 use Rattle.bits.proofs.Refusal.{none-refusal, refusal-append, refusal-most}
-use Rattle.dsc.specs.Repair.{repairOf}
+use Rattle.dsc.specs.Marks.{Marking, repairBy}
 use Rattle.frame.specs.Identification.{classOf, isUndefined}
 use Rattle.frame.specs.Body.{row, layout}
 use Rattle.frame.specs.Fields.{fields, noOrigin, SameFields, gather, scatter, fieldWidths, bodyValues, recordBody, overLimit}
-use Rattle.frame.specs.Read.{classIn, bodyIn, detailsIn, recordIn, frameTests, frameRefusal, readOf, cleanOf}
+use Rattle.frame.specs.Read.{classIn, bodyIn, detailsIn, recordIn, frameTests, refusalBy, readBy, cleanBy}
 use Rattle.frame.specs.Write.{Legal, frameOf}
 use Rattle.frame.specs.Promises.{safetyRecord, CarriedWhole}
 use Rattle.frame.specs.declared.Edition.{Edition}
@@ -46,10 +46,10 @@ in-details : (r : Record) → packSegments (layout SafetyDetails) (bodyValues Sa
 unfolding row layout gather bodyValues widths withFixed pack
 in-details r = ap (bitsOf 31 (r .time) ++_) (append-nil (bitsOf 57 (r .region)))
 
-details : (ed : Edition) (t : Tuner) (f : List ℕ) (r : Record) (d : ℕ) → readOf ed t f ≡ Accepted r d → classOf ed (r .identification) ≡ SafetyInformation
-    → detailsIn (cleanOf f) ≡ bitsOf 31 (r .time) ++ bitsOf 57 (r .region)
-details ed t f r d e s =
-    ap detailsIn (sym (demand2 ed .written-again t f r d e))
+details : (ed : Edition) (q : Marking) (t : Tuner) (f : List ℕ) (r : Record) (d : ℕ) → readBy ed q t f ≡ Accepted r d
+    → classOf ed (r .identification) ≡ SafetyInformation → detailsIn (cleanBy q f) ≡ bitsOf 31 (r .time) ++ bitsOf 57 (r .region)
+details ed q t f r d e s =
+    ap detailsIn (sym (demand2 ed .written-again q t f r d e))
     ∙ own-parts ed r (frameOf ed r) (length-frame ed r) (parts-frame ed r .word) .details
     ∙ ap (λ (b : Body). packSegments (layout b) (bodyValues b r)) (safety-body ed r s)
     ∙ in-details r
@@ -77,13 +77,13 @@ legal x p i u t g hx hp hi hu ht hg =
     })
 
 -- the tests of fixed bits and of limits
-untested : (ed : Edition) (f : List ℕ) → classIn ed (repairOf f .word) ≡ SafetyInformation → frameRefusal ed f ≤ 7
-unfolding frameRefusal row layout widths unpack fixedHold
-untested ed f e =
-    let c = repairOf f .word in
+untested : (ed : Edition) (q : Marking) (f : List ℕ) → classIn ed (repairBy q f .word) ≡ SafetyInformation → refusalBy ed q f ≤ 7
+unfolding refusalBy row layout widths unpack fixedHold
+untested ed q f e =
+    let c = repairBy q f .word in
     let b : bodyIn ed c ≡ SafetyDetails = rw e in
-    let ts = take 7 (frameTests ed f) in
-    let us = drop 7 (frameTests ed f) in
+    let ts = take 7 (frameTests ed q f) in
+    let us = drop 7 (frameTests ed q f) in
     let r = recordIn ed 0 0 c in
     let none : firstRefusal us ≡ 0 =
     none-refusal us

@@ -74,7 +74,7 @@ pub record Outside (r : Record) (n : ℕ) (f : List ℕ) : Type 0 where
   pub filler : fieldAt f 204 4 ≡ 0
 
 -- a part that was not hit
-pub not-hit : (limit n : ℕ) (u : List Bool) → HitPart limit n (zeros n) u u
+pub not-hit : (limit n : ℕ) (u : List Bool) → HitPart weight (_≤ limit) n (zeros n) u u
 not-hit limit n u = record { places = length-replicate n false; few = omega (arith, weight-zeros n); hit = sym (add-zeros n u) }
 
 -- ---- the parts' sizes
@@ -219,7 +219,7 @@ module _ (ed : Edition) where
 
   -- a frame whose bits outside B1 to B203 are those of a record's frame, and whose B1 to B16 are that frame's, hit in the places of s
   pub outside : (r : Record) → Fit (fieldWidths (recordBody ed r)) (fields r) → (f : List ℕ) (s : List Bool) → SameOutside f (frameOf ed r)
-      → HitPart 3 16 s (syncBits f) (syncBits (frameOf ed r)) → Outside r (weight s) f
+      → HitPart weight (_≤ 3) 16 s (syncBits f) (syncBits (frameOf ed r)) → Outside r (weight s) f
   outside r fit f s same hit =
       let q = heads (recordBody ed r) r fit in
       let p = parts-frame r in

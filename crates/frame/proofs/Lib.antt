@@ -7,6 +7,7 @@ pub mod Frames
 pub mod Areas
 pub mod Readings
 pub mod Promises
+pub mod Marks
 pub mod Editions
 pub mod CarriedWhole
 pub mod Worked

@@ -16,11 +16,12 @@ use Rattle.gf2.specs.Polynomial.{zeros, add}
 use Rattle.gf2.proofs.Sum.{length-add}
 use Rattle.dsc.specs.Code.{CodeWord, weight, dist, parityOf}
 use Rattle.dsc.specs.Repair.{protected, wordBytes, repairedTo, numberOf, repairOf}
+use Rattle.dsc.specs.Marks.{Marking, unmarked, whole, repairBy, MarksSized, hitsBy, FewBy}
 use Rattle.dsc.specs.declared.Answer.{Answer}
-use Rattle.dsc.proofs.Promises.{demand3}
 use Rattle.dsc.proofs.Word.{length-word}
 use Rattle.dsc.proofs.Distance.{dist-none, dist-same}
 use Rattle.dsc.proofs.Answers.{length-protected, protected-wordBytes, repair-found}
+use Rattle.dsc.proofs.MarkedAnswers.{sized-whole, found-by, hits-sent}
 use Rattle.sync_pattern.specs.Pattern.{patternBits, differingFrom, syncNumber, fittingPattern}
 use Rattle.sync_pattern.specs.Promises.{FarFromBoth, Fitting}
 use Rattle.sync_pattern.specs.declared.Sync.{Sync}
@@ -28,7 +29,7 @@ use Rattle.sync_pattern.proofs.Patterns.{differing-dist, fitting-none}
 use Rattle.sync_pattern.proofs.Promises.{pattern-test}
 use Rattle.frame.specs.Body.{row}
 use Rattle.frame.specs.Fields.{fields, noOrigin, recordFrom, withOrigin, SameFields}
-use Rattle.frame.specs.Read.{identificationIn, bodyIn, valuesIn, recordIn, syncBits, syncIn, afterRepair, frameRefusal, placesIn, judgeOf, readOf, readingNumber, readingTuner, readingPlaces, readingDiffering, readingFields, cleanOf}
+use Rattle.frame.specs.Read.{identificationIn, bodyIn, valuesIn, recordIn, syncBits, syncIn, afterRepair, refusalBy, placesBy, judgeBy, readBy, readOf, readingNumber, readingTuner, readingPlaces, readingDiffering, readingFields, cleanBy, cleanOf}
 use Rattle.frame.specs.Area.{warnedIn}
 use Rattle.frame.specs.Write.{Legal, messageBits, recordRefusal, frameOf, writeNumber, writeOf}
 use Rattle.frame.specs.Promises.{HitFrame, hitFrame, Mended, ComesBack, Told, Demand2, Origins, SameRecords, AreasOnAir, BitNumbers}
@@ -44,7 +45,7 @@ use Rattle.frame.proofs.Bodies.{layout-sum, legal-sound, taken}
 use Rattle.frame.proofs.Origins.{from-fields, from-origin, from-again, from-legal, from-frame, same-whole, same-legal, same-written, same-warned}
 use Rattle.frame.proofs.Frames.{wordOf, record-word, length-frame, parts-frame, found-record, found-accepted, Outside, outside, own-outside}
 use Rattle.frame.proofs.Areas.{warned-on-air}
-use Rattle.frame.proofs.Readings.{Judged, accepted-judged, judged-accepted, judged-places, judged-dist, judged-read, read-legal, read-word}
+use Rattle.frame.proofs.Readings.{Judged, accepted-judged, judged-accepted, judged-places, judged-size, judged-read, read-legal, read-word}
 
 -- ---- what is told
 
@@ -84,42 +85,46 @@ back-from r t m n a e =
 
 -- ---- written and read
 
-module _ (ed : Edition) where
+module _ (ed : Edition) (q : Marking) where
   -- a frame that has what stands outside the word of a legal record's frame, m bits of the pattern apart, and whose word is repaired to that record's
-  read-record : (t : Tuner) (r : Record) (f : List ℕ) (m n : ℕ) → Legal ed r → length f ≡ 26 → Outside r m f → repairOf f ≡ repairedTo (wordOf ed r) n
-      → ComesBack r t n m (readOf ed t f)
-  read-record t r f m n l h o e =
+  read-record : (t : Tuner) (r : Record) (f : List ℕ) (m n : ℕ) → Legal ed r → whole q f ≡ true → Outside r m f
+      → n ≡ hitsBy q (add (protected f) (wordOf ed r)) → FewBy q n → ComesBack r t n m (readBy ed q t f)
+  read-record t r f m n l h o e d =
       let fit = legal-sound ed r l .fit in
       let origin : Origin = record { tuner = t; repaired = n } in
-      let j : Judged ed f =
+      let j : Judged ed q f =
       record {
         word = wordOf ed r;
         places = n;
         pattern = r .pattern;
         differing = m;
-        size = h;
+        complete = h;
         filler = o .filler;
         sync = o .sync;
         code-word = record-word ed r;
-        repaired = e;
+        counted = e;
+        few = d;
+        repaired = found-by q f h (wordOf ed r) (record-word ed r) (subst (FewBy q) e d) ∙ ap (repairedTo (wordOf ed r)) (sym e);
         tests = found-accepted ed r l;
       } in
-      back-from r t n m (readOf ed t f)
-      (judged-read ed f j t
+      back-from r t n m (readBy ed q t f)
+      (judged-read ed q f j t
       ∙ ap (λ (x : ℕ). Accepted (withOrigin origin (recordIn ed x (r .pattern) (wordBytes (wordOf ed r)))) m) (o .reference)
       ∙ ap (λ (y : Record). Accepted (withOrigin origin y) m) (found-record ed r fit)
       ∙ ap (λ (y : Record). Accepted y m) (from-again origin noOrigin r))
 
-  hit-comes-back : (t : Tuner) (r : Record) (s e : List Bool) (f : List ℕ) → Legal ed r → HitFrame ed r s e f
-      → ComesBack r t (weight e) (weight s) (readOf ed t f)
+  hit-comes-back : (t : Tuner) (r : Record) (s e : List Bool) (f : List ℕ) → Legal ed r → HitFrame ed q r s e f
+      → ComesBack r t (hitsBy q e) (weight s) (readBy ed q t f)
   hit-comes-back t r s e f l h =
       let w = h .word in
-      read-record t r f (weight s) (weight e) l (h .size) (outside ed r (legal-sound ed r l .fit) f s (h .outside) (h .sync))
-      (demand3 .gives-sent-word f (wordOf ed r) e (h .size) (record-word ed r) (w .places) (w .few) (w .hit ∙ ap (add e) (parts-frame ed r .word)))
+      read-record t r f (weight s) (hitsBy q e) l (sized-whole q f (h .size) (h .marks-size)) (outside ed r (legal-sound ed r l .fit) f s (h .outside) (h .sync))
+      (sym (hits-sent q f (wordOf ed r) e (record-word ed r) (w .places) (w .hit ∙ ap (add e) (parts-frame ed r .word)))) (w .few)
 
-  hit-some : (r : Record) (s e : List Bool) → length s ≡ 16 → weight s ≤ 3 → length e ≡ 187 → weight e ≤ 8 → HitFrame ed r s e (hitFrame ed r s e)
+module _ (ed : Edition) where
+  hit-some : (q : Marking) (r : Record) (s e : List Bool) → MarksSized q → length s ≡ 16 → weight s ≤ 3 → length e ≡ 187 → FewBy q (hitsBy q e)
+      → HitFrame ed q r s e (hitFrame ed r s e)
   unfolding hitFrame
-  hit-some r s e ns ks ne ke =
+  hit-some q r s e hm ns ks ne ke =
       let g = frameOf ed r in
       let f = hitFrame ed r s e in
       let x = take 1 (bits g) in
@@ -137,20 +142,25 @@ module _ (ed : Edition) where
       let p = frame-parts f x y w z size lx ly lw b in
       record {
         size = size;
+        marks-size = hm;
         outside = record { reference = p .reference; filler = sym (filler-whole f size) ∙ p .filler };
         sync = record { places = ns; few = ks; hit = p .pattern };
         word = record { places = ne; few = ke; hit = p .word };
       }
 
   -- a record's own frame needs no repair
+  own-dist : (r : Record) → dist (protected (frameOf ed r)) (wordOf ed r) ≡ 0
+  own-dist r = ap (λ (w : List Bool). dist w (wordOf ed r)) (parts-frame ed r .word) ∙ dist-same (wordOf ed r)
+
   pub repair-own : (r : Record) → repairOf (frameOf ed r) ≡ repairedTo (wordOf ed r) 0
   repair-own r =
-      let f = frameOf ed r in
-      let d : dist (protected f) (wordOf ed r) ≡ 0 = ap (λ (w : List Bool). dist w (wordOf ed r)) (parts-frame ed r .word) ∙ dist-same (wordOf ed r) in
-      repair-found f (length-frame ed r) (wordOf ed r) (record-word ed r) (omega arith) ∙ ap (repairedTo (wordOf ed r)) d
+      repair-found (frameOf ed r) (length-frame ed r) (wordOf ed r) (record-word ed r) (omega (arith, own-dist r))
+      ∙ ap (repairedTo (wordOf ed r)) (own-dist r)
 
   pub comes-back : (t : Tuner) (r : Record) → Legal ed r → ComesBack r t 0 0 (readOf ed t (frameOf ed r))
-  comes-back t r l = read-record t r (frameOf ed r) 0 0 l (length-frame ed r) (own-outside ed r (legal-sound ed r l .fit)) (repair-own r)
+  comes-back t r l =
+      read-record ed unmarked t r (frameOf ed r) 0 0 l (sized-whole unmarked (frameOf ed r) (length-frame ed r) tt)
+      (own-outside ed r (legal-sound ed r l .fit)) (sym (own-dist r)) (omega arith)
 
   written-apart : (r s : Record) → Legal ed r → Legal ed s → frameOf ed r ≡ frameOf ed s → SameFields r s
   written-apart r s lr ls e =
@@ -158,9 +168,10 @@ module _ (ed : Edition) where
       let b = comes-back None s ls in
       a .same ∙ ap readingFields (sym (a .accepted) ∙ ap (readOf ed None) e ∙ b .accepted) ∙ sym (b .same)
 
-  -- ---- read and written
+-- ---- read and written
 
-  module _ (f : List ℕ) (j : Judged ed f) where
+module _ (ed : Edition) (q : Marking) where
+  module _ (f : List ℕ) (j : Judged ed q f) where
     -- what the frame says
     recorded : Record
     recorded = recordIn ed (fieldAt f 0 1) (j .pattern) (wordBytes (j .word))
@@ -184,12 +195,12 @@ module _ (ed : Edition) where
         let y = taken (bodyIn ed c) (fieldAt f 0 1) (j .pattern) (identificationIn c) (fieldAt c 19 2) (valuesIn ed c) in
         (y .reference, y .pattern)
 
-    recorded-frame : frameOf ed recorded ≡ cleanOf f
-    unfolding frameOf cleanOf
+    recorded-frame : frameOf ed recorded ≡ cleanBy q f
+    unfolding frameOf cleanBy
     recorded-frame =
         let m = messageBits ed recorded in
         let p = parityOf m in
-        let w : wordOf ed recorded ≡ protected (repairOf f .word) =
+        let w : wordOf ed recorded ≡ protected (repairBy q f .word) =
         recorded-word
         ∙ sym (ap (λ (a : Answer). protected (a .word)) (j .repaired) ∙ protected-wordBytes (j .word) (length-word (j .word) (j .code-word))) in
         ap₂ (λ (x y : ℕ). bytes 26 (bitsOf 1 x ++ (patternBits y ++ (m ++ (p ++ zeros 4))))) (recorded-taken .0)
@@ -197,12 +208,12 @@ module _ (ed : Edition) where
         ∙ ap (λ (l : List Bool). bytes 26 (bitsOf 1 (fieldAt f 0 1) ++ (patternBits (fittingPattern (syncIn f)) ++ l)))
         (sym (append-assoc m p (zeros 4)) ∙ ap (_++ zeros 4) w)
 
-    recorded-mended : Mended f (frameOf ed recorded) (recorded .pattern) (j .places) (j .differing)
+    recorded-mended : Mended q f (frameOf ed recorded) (recorded .pattern) (j .places) (j .differing)
     unfolding bitsOf odd
     recorded-mended =
         let r = recorded in
         let b = bits f in
-        let lb : length b ≡ 208 = frame-bits f (j .size) in
+        let lb : length b ≡ 208 = frame-bits f (judged-size ed q f j) in
         let p = parts-frame ed r in
         let y = recorded-sync in
         let sync : differingFrom (j .pattern) (syncBits f) ≡ dist (syncBits f) (syncBits (frameOf ed r)) =
@@ -213,38 +224,39 @@ module _ (ed : Edition) where
           outside =
               record {
                 reference = p .reference ∙ ap (bitsOf 1) (recorded-taken .0) ∙ part-bits 0 1 b (omega arith);
-                filler = sym (filler-whole (frameOf ed r) (length-frame ed r)) ∙ p .filler ∙ sym filler ∙ filler-whole f (j .size);
+                filler = sym (filler-whole (frameOf ed r) (length-frame ed r)) ∙ p .filler ∙ sym filler ∙ filler-whole f (judged-size ed q f j);
               };
           pattern = p .pattern;
           by-differing = record { count = y .differing ∙ sync; few = y .few };
           word = subst CodeWord (sym (p .word)) (record-word ed r);
-          by-places = record { count = judged-dist ed f j .0 ∙ ap (dist (protected f)) (sym (p .word ∙ recorded-word)); few = judged-dist ed f j .1 };
+          by-places =
+              record { count = j .counted ∙ ap (λ (w : List Bool). hitsBy q (add (protected f) w)) (sym (p .word ∙ recorded-word)); few = j .few };
         }
 
   -- what is known of an accepted frame: r is what it says, from the origin that was told and found
   record Known (t : Tuner) (f : List ℕ) (r : Record) (d : ℕ) : Type 0 where
-    judged : Judged ed f
+    judged : Judged ed q f
     is : withOrigin (record { tuner = t; repaired = judged .places }) (recorded f judged) ≡ r
     differing : judged .differing ≡ d
 
-  pub refused-read : (t : Tuner) (f : List ℕ) → frameRefusal ed f ≢ 0 → readOf ed t f ≡ Refused (frameRefusal ed f)
-  unfolding readOf
-  refused-read t f n = rw (ne-eqb (frameRefusal ed f) 0 n)
+  pub refused-read : (t : Tuner) (f : List ℕ) → refusalBy ed q f ≢ 0 → readBy ed q t f ≡ Refused (refusalBy ed q f)
+  unfolding readBy
+  refused-read t f n = rw (ne-eqb (refusalBy ed q f) 0 n)
 
-  known : (t : Tuner) (f : List ℕ) (r : Record) (d : ℕ) → readOf ed t f ≡ Accepted r d → Known t f r d
+  known : (t : Tuner) (f : List ℕ) (r : Record) (d : ℕ) → readBy ed q t f ≡ Accepted r d → Known t f r d
   unfolding recorded
-  known t f r d e = go (eqb (frameRefusal ed f) 0) refl
+  known t f r d e = go (eqb (refusalBy ed q f) 0) refl
     where
-      go : (b : Bool) → eqb (frameRefusal ed f) 0 ≡ b → Known t f r d
-      go true q =
-          let j = accepted-judged ed f (eqb-true (frameRefusal ed f) 0 q) in
-          let same = sym (judged-read ed f j t) ∙ e in
+      go : (b : Bool) → eqb (refusalBy ed q f) 0 ≡ b → Known t f r d
+      go true y =
+          let j = accepted-judged ed q f (eqb-true (refusalBy ed q f) 0 y) in
+          let same = sym (judged-read ed q f j t) ∙ e in
           record { judged = j; is = cc; differing = cc }
-      go false q =
-          let same = sym (refused-read t f (eqb-false (frameRefusal ed f) 0 q)) ∙ e in
+      go false y =
+          let same = sym (refused-read t f (eqb-false (refusalBy ed q f) 0 y)) ∙ e in
           let z : _≡_ {A = ℕ} 0 1 = cc in absurd (omega arith)
 
-  module _ (t : Tuner) (f : List ℕ) (r : Record) (d : ℕ) (e : readOf ed t f ≡ Accepted r d) where
+  module _ (t : Tuner) (f : List ℕ) (r : Record) (d : ℕ) (e : readBy ed q t f ≡ Accepted r d) where
     -- where it came from, and what it says but for that
     read-origin : (r .origin .tuner ≡ t) × (r .origin .repaired ≡ known t f r d e .judged .places)
     read-origin =
@@ -256,31 +268,31 @@ module _ (ed : Edition) where
     read-is-legal : Legal ed r
     read-is-legal = let k = known t f r d e in subst (Legal ed) (k .is) (from-legal ed _ (recorded f (k .judged)) (recorded-legal f (k .judged)))
 
-    written-again : frameOf ed r ≡ cleanOf f
+    written-again : frameOf ed r ≡ cleanBy q f
     written-again =
         let k = known t f r d e in ap (frameOf ed) (sym (k .is)) ∙ from-frame ed _ (recorded f (k .judged)) ∙ recorded-frame f (k .judged)
 
-    mended : Mended f (cleanOf f) (r .pattern) (r .origin .repaired) d
+    mended : Mended q f (cleanBy q f) (r .pattern) (r .origin .repaired) d
     unfolding recordFrom
     mended =
         let k = known t f r d e in
         let j = k .judged in
         let pattern : recorded f j .pattern ≡ r .pattern = ap (λ (y : Record). y .pattern) (k .is) in
-        subst (λ (n : ℕ). Mended f (cleanOf f) n (r .origin .repaired) d) pattern
-        (subst (λ (n : ℕ). Mended f (cleanOf f) (recorded f j .pattern) n d) (sym (read-origin .1))
-        (subst (λ (n : ℕ). Mended f (cleanOf f) (recorded f j .pattern) (j .places) n) (k .differing)
-        (subst (λ (g : List ℕ). Mended f g (recorded f j .pattern) (j .places) (j .differing)) (recorded-frame f j) (recorded-mended f j))))
+        subst (λ (n : ℕ). Mended q f (cleanBy q f) n (r .origin .repaired) d) pattern
+        (subst (λ (n : ℕ). Mended q f (cleanBy q f) (recorded f j .pattern) n d) (sym (read-origin .1))
+        (subst (λ (n : ℕ). Mended q f (cleanBy q f) (recorded f j .pattern) (j .places) n) (k .differing)
+        (subst (λ (g : List ℕ). Mended q f g (recorded f j .pattern) (j .places) (j .differing)) (recorded-frame f j) (recorded-mended f j))))
 
-    mended-read : (u : Tuner) → ComesBack r u 0 0 (readOf ed u (cleanOf f))
-    mended-read u = subst (λ (g : List ℕ). ComesBack r u 0 0 (readOf ed u g)) written-again (comes-back u r read-is-legal)
+    mended-read : (u : Tuner) → ComesBack r u 0 0 (readOf ed u (cleanBy q f))
+    mended-read u = subst (λ (g : List ℕ). ComesBack r u 0 0 (readOf ed u g)) written-again (comes-back ed u r read-is-legal)
 
     -- told another tuner
-    other-tuner : (u : Tuner) → ComesBack r u (r .origin .repaired) d (readOf ed u f)
+    other-tuner : (u : Tuner) → ComesBack r u (r .origin .repaired) d (readBy ed q u f)
     unfolding recorded
     other-tuner u =
         let k = known t f r d e in
         let j = k .judged in
-        let b = back-from (recorded f j) u (j .places) (j .differing) (readOf ed u f) (judged-read ed f j u) in
+        let b = back-from (recorded f j) u (j .places) (j .differing) (readBy ed q u f) (judged-read ed q f j u) in
         let same : SameFields r (recorded f j) = ap fields (sym (k .is)) ∙ from-fields _ (recorded f j) in
         record {
           back = b .back;
@@ -290,11 +302,11 @@ module _ (ed : Edition) where
           repaired = b .repaired ∙ sym (read-origin .1);
         }
 
-    by-bit : (k : ℕ) → r .identification ≤ 3 → r .page ≡ 0 → k < 56 → warnedIn r k ≡ not (getD (bits (cleanOf f)) (56 + k) false)
+    by-bit : (k : ℕ) → r .identification ≤ 3 → r .page ≡ 0 → k < 56 → warnedIn r k ≡ not (getD (bits (cleanBy q f)) (56 + k) false)
     by-bit k w p h = warned-on-air ed r w p k h ∙ ap (λ (g : List ℕ). not (getD (bits g) (56 + k) false)) written-again
 
     -- the record's identification is that of the repaired frame
-    pub read-identification : r .identification ≡ identificationIn (repairOf f .word)
+    pub read-identification : r .identification ≡ identificationIn (repairBy q f .word)
     unfolding recorded recordFrom
     read-identification =
         let k = known t f r d e in
@@ -304,22 +316,74 @@ module _ (ed : Edition) where
         ∙ taken (bodyIn ed c) (fieldAt f 0 1) (j .pattern) (identificationIn c) (fieldAt c 19 2) (valuesIn ed c) .identification
         ∙ ap (λ (a : Answer). identificationIn (a .word)) (sym (j .repaired))
 
-    accepted : frameRefusal ed f ≡ 0
-    accepted = judged-accepted ed f (known t f r d e .judged)
+    accepted : refusalBy ed q f ≡ 0
+    accepted = judged-accepted ed q f (known t f r d e .judged)
 
-    verdict : judgeOf ed f ≡ record { number = 0; repaired = r .origin .repaired }
-    unfolding judgeOf
-    verdict = let n : placesIn ed f ≡ r .origin .repaired = judged-places ed f (known t f r d e .judged) ∙ sym (read-origin .1) in rw (accepted, n)
+    verdict : judgeBy ed q f ≡ record { number = 0; repaired = r .origin .repaired }
+    unfolding judgeBy
+    verdict = let n : placesBy ed q f ≡ r .origin .repaired = judged-places ed q f (known t f r d e .judged) ∙ sym (read-origin .1) in rw (accepted, n)
 
+  -- ---- refusal 3
+
+  no-pattern : (f : List ℕ) → length f ≡ 26 → MarksSized q → fieldAt f 204 4 ≡ 0 → FarFromBoth (syncBits f) → refusalBy ed q f ≡ 3
+  unfolding refusalBy
+  no-pattern f h hm z far =
+      refusal-later 1 _ (ap not (sized-whole q f h hm))
+      ∙ refusal-later 2 _ (ap not (eq-eqb (fieldAt f 204 4) 0 z))
+      ∙ refusal-here 3 _ (ap (λ (y : Sync). not (eqb (syncNumber y) 0)) (pattern-test .neither (syncBits f) far))
+
+  no-pattern-only : (f : List ℕ) → refusalBy ed q f ≡ 3 → FarFromBoth (syncBits f)
+  unfolding refusalBy
+  no-pattern-only f e =
+      let first : List (ℕ × Bool) = (1, not (whole q f)) ∷ (2, not (eqb (fieldAt f 204 4) 0)) ∷ [] in
+      let later : List (ℕ × Bool) = (4, not (eqb (numberOf (repairBy q f)) 0)) ∷ afterRepair ed (repairBy q f .word) in
+      let n = syncNumber (syncIn f) in
+      let given : not (eqb n 0) ≡ true = refusal-met first later 3 (not (eqb n 0)) (omega arith) refl refl e in
+      pattern-test .neither-only (syncBits f) (fitting-none (syncIn f) (eqb-false n 0 (not-true (eqb n 0) given)))
+
+  -- ---- judged and read
+
+  judged : (t : Tuner) (f : List ℕ) → (judgeBy ed q f .number ≡ readingNumber (readBy ed q t f)) × (judgeBy ed q f .repaired ≡ readingPlaces (readBy ed q t f))
+  unfolding judgeBy readBy placesBy recordFrom
+  judged t f = go (eqb (refusalBy ed q f) 0) refl
+    where
+      go : (b : Bool) → eqb (refusalBy ed q f) 0 ≡ b → (judgeBy ed q f .number ≡ readingNumber (readBy ed q t f)) × (judgeBy ed q f .repaired ≡ readingPlaces (readBy ed q t f))
+      go true y = rw (eqb-true (refusalBy ed q f) 0 y) (refl, refl)
+      go false y = rw y (refl, refl)
+
+  judged-refused : (t : Tuner) (f : List ℕ) (n : ℕ) → readBy ed q t f ≡ Refused n → (n ≢ 0) × (judgeBy ed q f ≡ record { number = n; repaired = 0 })
+  unfolding judgeBy placesBy
+  judged-refused t f n e = go (eqb (refusalBy ed q f) 0) refl
+    where
+      go : (b : Bool) → eqb (refusalBy ed q f) 0 ≡ b → (n ≢ 0) × (judgeBy ed q f ≡ record { number = n; repaired = 0 })
+      go true y =
+          let same = sym (judged-read ed q f (accepted-judged ed q f (eqb-true (refusalBy ed q f) 0 y)) t) ∙ e in
+          let z : _≡_ {A = ℕ} 0 1 = cc in absurd (omega arith)
+      go false y =
+          let ne = eqb-false (refusalBy ed q f) 0 y in
+          let same = sym (refused-read t f ne) ∙ e in
+          let number : refusalBy ed q f ≡ n = cc in
+          (λ z. ne (number ∙ z), rw (y, number))
+
+  number-told : (t : Tuner) (f : List ℕ) → readingNumber (readBy ed q t f) ≡ refusalBy ed q f
+  unfolding judgeBy
+  number-told t f = sym (judged t f .0)
+
+  other-refused : (t u : Tuner) (f : List ℕ) (n : ℕ) → readBy ed q t f ≡ Refused n → readBy ed q u f ≡ Refused n
+  other-refused t u f n e =
+      let number : refusalBy ed q f ≡ n = sym (number-told t f) ∙ ap readingNumber e in
+      refused-read u f (λ z. judged-refused t f n e .0 (sym number ∙ z)) ∙ ap Refused number
+
+module _ (ed : Edition) where
   bytes-frame : (r : Record) → Bytes (frameOf ed r)
   unfolding frameOf
   bytes-frame r = bytes-Bytes 26 _
 
   undamaged : (t : Tuner) (f : List ℕ) (r : Record) → Bytes f → readOf ed t f ≡ Accepted r 0 → r .origin .repaired ≡ 0 → frameOf ed r ≡ f
   undamaged t f r h e none =
-      let m = mended t f r 0 e in
+      let m = mended ed unmarked t f r 0 e in
       let g = cleanOf f in
-      let lf = known t f r 0 e .judged .size in
+      let lf = judged-size ed unmarked f (known ed unmarked t f r 0 e .judged) in
       let lb : length (bits f) ≡ 208 = frame-bits f lf in
       let lc : length (bits g) ≡ 208 = frame-bits g (m .size) in
       let s : syncBits g ≡ syncBits f =
@@ -331,58 +395,7 @@ module _ (ed : Edition) where
       ∙ ap₂ (λ (x y : List Bool). x ++ (y ++ (protected g ++ take 4 (drop 204 (bits g))))) (m .outside .reference) s
       ∙ ap₂ (λ (x y : List Bool). take 1 (bits f) ++ (syncBits f ++ (x ++ take 4 y))) w (m .outside .filler)
       ∙ sym (frame-split f lf) in
-      written-again t f r 0 e ∙ bits-inj g f (subst Bytes (written-again t f r 0 e) (bytes-frame r)) h (m .size ∙ sym lf) b
-
-  -- ---- refusal 3
-
-  no-pattern : (f : List ℕ) → length f ≡ 26 → fieldAt f 204 4 ≡ 0 → FarFromBoth (syncBits f) → frameRefusal ed f ≡ 3
-  unfolding frameRefusal
-  no-pattern f h z far =
-      refusal-later 1 _ (ap not (eq-eqb (length f) 26 h))
-      ∙ refusal-later 2 _ (ap not (eq-eqb (fieldAt f 204 4) 0 z))
-      ∙ refusal-here 3 _ (ap (λ (y : Sync). not (eqb (syncNumber y) 0)) (pattern-test .neither (syncBits f) far))
-
-  no-pattern-only : (f : List ℕ) → frameRefusal ed f ≡ 3 → FarFromBoth (syncBits f)
-  unfolding frameRefusal
-  no-pattern-only f e =
-      let first : List (ℕ × Bool) = (1, not (eqb (length f) 26)) ∷ (2, not (eqb (fieldAt f 204 4) 0)) ∷ [] in
-      let later : List (ℕ × Bool) = (4, not (eqb (numberOf (repairOf f)) 0)) ∷ afterRepair ed (repairOf f .word) in
-      let n = syncNumber (syncIn f) in
-      let given : not (eqb n 0) ≡ true = refusal-met first later 3 (not (eqb n 0)) (omega arith) refl refl e in
-      pattern-test .neither-only (syncBits f) (fitting-none (syncIn f) (eqb-false n 0 (not-true (eqb n 0) given)))
-
-  -- ---- judged and read
-
-  judged : (t : Tuner) (f : List ℕ) → (judgeOf ed f .number ≡ readingNumber (readOf ed t f)) × (judgeOf ed f .repaired ≡ readingPlaces (readOf ed t f))
-  unfolding judgeOf readOf placesIn recordFrom
-  judged t f = go (eqb (frameRefusal ed f) 0) refl
-    where
-      go : (b : Bool) → eqb (frameRefusal ed f) 0 ≡ b → (judgeOf ed f .number ≡ readingNumber (readOf ed t f)) × (judgeOf ed f .repaired ≡ readingPlaces (readOf ed t f))
-      go true q = rw (eqb-true (frameRefusal ed f) 0 q) (refl, refl)
-      go false q = rw q (refl, refl)
-
-  judged-refused : (t : Tuner) (f : List ℕ) (n : ℕ) → readOf ed t f ≡ Refused n → (n ≢ 0) × (judgeOf ed f ≡ record { number = n; repaired = 0 })
-  unfolding judgeOf placesIn
-  judged-refused t f n e = go (eqb (frameRefusal ed f) 0) refl
-    where
-      go : (b : Bool) → eqb (frameRefusal ed f) 0 ≡ b → (n ≢ 0) × (judgeOf ed f ≡ record { number = n; repaired = 0 })
-      go true q =
-          let same = sym (judged-read ed f (accepted-judged ed f (eqb-true (frameRefusal ed f) 0 q)) t) ∙ e in
-          let z : _≡_ {A = ℕ} 0 1 = cc in absurd (omega arith)
-      go false q =
-          let ne = eqb-false (frameRefusal ed f) 0 q in
-          let same = sym (refused-read t f ne) ∙ e in
-          let number : frameRefusal ed f ≡ n = cc in
-          (λ z. ne (number ∙ z), rw (q, number))
-
-  number-told : (t : Tuner) (f : List ℕ) → readingNumber (readOf ed t f) ≡ frameRefusal ed f
-  unfolding judgeOf
-  number-told t f = sym (judged t f .0)
-
-  other-refused : (t u : Tuner) (f : List ℕ) (n : ℕ) → readOf ed t f ≡ Refused n → readOf ed u f ≡ Refused n
-  other-refused t u f n e =
-      let number : frameRefusal ed f ≡ n = sym (number-told t f) ∙ ap readingNumber e in
-      refused-read u f (λ z. judged-refused t f n e .0 (sym number ∙ z)) ∙ ap Refused number
+      written-again ed unmarked t f r 0 e ∙ bits-inj g f (subst Bytes (written-again ed unmarked t f r 0 e) (bytes-frame r)) h (m .size ∙ sym lf) b
 
   -- ---- what is written
 
@@ -403,38 +416,38 @@ module _ (ed : Edition) where
   pub demand2 : Demand2 ed
   demand2 =
       record {
-        comes-back = comes-back;
-        hit-comes-back = hit-comes-back;
-        told = λ t r l. told-back _ _ _ _ _ (comes-back t r l);
-        hit-told = λ t r s e f l h. told-back _ _ _ _ _ (hit-comes-back t r s e f l h);
-        hit-some = hit-some;
-        number-told = number-told;
-        refused-told = λ t f n. told-as _ _ (refused-read t f n);
-        no-pattern = no-pattern;
-        no-pattern-only = no-pattern-only;
-        written-again = written-again;
-        mended = mended;
+        comes-back = comes-back ed;
+        hit-comes-back = hit-comes-back ed;
+        told = λ t r l. told-back _ _ _ _ _ (comes-back ed t r l);
+        hit-told = λ q t r s e f l h. told-back _ _ _ _ _ (hit-comes-back ed q t r s e f l h);
+        hit-some = hit-some ed;
+        number-told = number-told ed;
+        refused-told = λ q t f n. told-as _ _ (refused-read ed q t f n);
+        no-pattern = no-pattern ed;
+        no-pattern-only = no-pattern-only ed;
+        written-again = written-again ed;
+        mended = mended ed;
         undamaged = undamaged;
-        mended-read = λ t u f r d e. mended-read t f r d e u;
-        read-legal = read-is-legal;
-        written-apart = written-apart;
-        judged = judged;
-        judged-accepted = verdict;
-        judged-refused = judged-refused;
+        mended-read = λ q t u f r d e. mended-read ed q t f r d e u;
+        read-legal = read-is-legal ed;
+        written-apart = written-apart ed;
+        judged = judged ed;
+        judged-accepted = verdict ed;
+        judged-refused = judged-refused ed;
         legal-exactly = legal-exactly;
         written = written;
         unchanged = unchanged;
       }
 
   pub areas-on-air : AreasOnAir ed
-  areas-on-air = record { by-bit = λ t f r d k e. by-bit t f r d e k; tokyo = λ t f r d e w p. by-bit t f r d e 15 w p (omega arith) }
+  areas-on-air = record { by-bit = λ q t f r d k e. by-bit ed q t f r d e k; tokyo = λ q t f r d e w p. by-bit ed q t f r d e 15 w p (omega arith) }
 
   pub origins : Origins ed
   origins =
       record {
-        tuner-told = λ t f r d e. read-origin t f r d e .0;
-        other-tuner = λ t u f r d e. other-tuner t f r d e u;
-        other-refused = other-refused;
+        tuner-told = λ q t f r d e. read-origin ed q t f r d e .0;
+        other-tuner = λ q t u f r d e. other-tuner ed q t f r d e u;
+        other-refused = other-refused ed;
         same-legal = same-legal ed;
         same-written = same-written ed;
       }

@@ -1,9 +1,9 @@
 -- Frames that are accepted: what that comes to, what is read of them, and that this is legal and writes the repaired word. Assumes nothing.
 use mathlib.Core.Path.{_≡_, refl, sym, ap, ap₂, _∙_, subst}
-use mathlib.Core.Bool.{Bool, false, true≢false, not, and-eq-true-iff}
+use mathlib.Core.Bool.{Bool, true, false, true≢false, not, and-eq-true-iff}
 use mathlib.Core.Logic.{_≢_}
 use mathlib.Core.List.{List, _∷_, _++_}
-use Prim.Native.Nat.{ℕ, _≤_, _<_}
+use Prim.Native.Nat.{ℕ, _<_}
 use native.Mathlib.Omega.{arith}
 use lib.Dec.{eqb}
 use lib.ListN.{length, take, drop}
@@ -18,19 +18,21 @@ use Rattle.bits.proofs.Segment.{pack-unpackSegments, fit-unpackSegments}
 use Rattle.bits.proofs.Refusal.{refusal-later, refusal-none, none-refusal}
 use Rattle.crc.specs.Crc.{crc10, crc10Of}
 use Rattle.crc.proofs.Crc.{crc10-bits}
-use Rattle.dsc.specs.Code.{CodeWord, dist, parityOf}
-use Rattle.dsc.specs.Repair.{protected, wordBytes, repairedTo, numberOf, repairOf}
+use Rattle.gf2.specs.Polynomial.{add}
+use Rattle.dsc.specs.Code.{CodeWord, parityOf}
+use Rattle.dsc.specs.Repair.{protected, wordBytes, repairedTo, numberOf}
+use Rattle.dsc.specs.Marks.{Marking, whole, repairBy, hitsBy, FewBy}
 use Rattle.dsc.specs.declared.Answer.{Answer}
 use Rattle.dsc.proofs.Word.{length-word, parity-only}
-use Rattle.dsc.proofs.Decoding.{Nearest, one, none, nearest}
-use Rattle.dsc.proofs.Answers.{length-protected, length-wordBytes, protected-wordBytes, repair-found, repair-none}
+use Rattle.dsc.proofs.Answers.{length-wordBytes, protected-wordBytes}
+use Rattle.dsc.proofs.MarkedAnswers.{whole-frame, AnsweredBy, found, far, answered-by}
 use Rattle.sync_pattern.specs.Pattern.{syncNumber, fittingPattern, fittingDiffering}
 use Rattle.sync_pattern.specs.declared.Sync.the-variants.{Fits}
 use Rattle.sync_pattern.proofs.Patterns.{fitting}
 use Rattle.frame.specs.Identification.{classOf, startEndOf, updateOf, isUndefined}
 use Rattle.frame.specs.Body.{bodyOf, layout, ownUpdate}
 use Rattle.frame.specs.Fields.{fields, withOrigin, fieldWidths, bodyValues, recordBody, overLimit}
-use Rattle.frame.specs.Read.{identificationIn, classIn, bodyIn, detailsIn, valuesIn, recordIn, syncIn, beforeRepair, afterRepair, frameRefusal, placesIn, originIn, contentsIn, readOf}
+use Rattle.frame.specs.Read.{identificationIn, classIn, bodyIn, detailsIn, valuesIn, recordIn, syncIn, beforeRepair, afterRepair, refusalBy, placesBy, originIn, contentsIn, readBy}
 use Rattle.frame.specs.Write.{Legal, announced, messageBits}
 use Rattle.frame.specs.declared.Edition.{Edition}
 use Rattle.frame.specs.declared.Class.{Class}
@@ -53,101 +55,91 @@ update-again SafetyDetails u safety d e = refl
 update-again NoInformation u silent d e = sym e
 update-again NoInformation u undefined d e = absurd (true≢false d)
 
-same-answer : (c w : List Bool) (m n : ℕ) → repairedTo c m ≡ repairedTo w n → (m ≡ n) × (wordBytes c ≡ wordBytes w)
-same-answer c w m n e = let o = ap (λ (a : Answer). a .outcome) e in (cc, ap (λ (a : Answer). a .word) e)
-
 -- ---- accepted frames
 
-module _ (ed : Edition) where
+module _ (ed : Edition) (q : Marking) where
   -- a frame that no refusal is given to: its word, the number of places repaired, its pattern, the number of bits that differ from it
   pub record Judged (f : List ℕ) : Type 0 where
     pub word : List Bool
     pub places : ℕ
     pub pattern : ℕ
     pub differing : ℕ
-    pub size : length f ≡ 26
+    pub complete : whole q f ≡ true
     pub filler : fieldAt f 204 4 ≡ 0
     pub sync : syncIn f ≡ Fits pattern differing
     pub code-word : CodeWord word
-    pub repaired : repairOf f ≡ repairedTo word places
+    -- the places that count in which the word differs from the received bits, which are not too many
+    pub counted : places ≡ hitsBy q (add (protected f) word)
+    pub few : FewBy q places
+    pub repaired : repairBy q f ≡ repairedTo word places
     pub tests : NoneGiven (afterRepair ed (wordBytes word))
 
   refusals : List ℕ → List (ℕ × Bool)
-  refusals f = beforeRepair f ++ (4, not (eqb (numberOf (repairOf f)) 0)) ∷ afterRepair ed (repairOf f .word)
+  refusals f = beforeRepair q f ++ (4, not (eqb (numberOf (repairBy q f)) 0)) ∷ afterRepair ed (repairBy q f .word)
 
-  pub accepted-judged : (f : List ℕ) → frameRefusal ed f ≡ 0 → Judged f
-  unfolding frameRefusal refusals
+  pub accepted-judged : (f : List ℕ) → refusalBy ed q f ≡ 0 → Judged f
+  unfolding refusalBy refusals
   accepted-judged f e =
       let h = refusal-none (refusals f) refl e in
-      let size = eqb-true (length f) 26 (not-false (eqb (length f) 26) (h .0)) in
-      let number = eqb-true (numberOf (repairOf f)) 0 (not-false (eqb (numberOf (repairOf f)) 0) (h .1 .1 .1 .0)) in
-      go size number (h .1 .0) (h .1 .1 .0) (h .1 .1 .1 .1) (nearest (protected f) (length-protected f size))
+      let complete = not-false (whole q f) (h .0) in
+      let number = eqb-true (numberOf (repairBy q f)) 0 (not-false (eqb (numberOf (repairBy q f)) 0) (h .1 .1 .1 .0)) in
+      go complete number (h .1 .0) (h .1 .1 .0) (h .1 .1 .1 .1) (answered-by q f complete)
     where
-      go : length f ≡ 26 → numberOf (repairOf f) ≡ 0 → not (eqb (fieldAt f 204 4) 0) ≡ false → not (eqb (syncNumber (syncIn f)) 0) ≡ false
-          → NoneGiven (afterRepair ed (repairOf f .word)) → Nearest (protected f) → Judged f
-      go size number filler pattern tests (one c k d) =
-          let e = repair-found f size c k d in
+      go : whole q f ≡ true → numberOf (repairBy q f) ≡ 0 → not (eqb (fieldAt f 204 4) 0) ≡ false → not (eqb (syncNumber (syncIn f)) 0) ≡ false
+          → NoneGiven (afterRepair ed (repairBy q f .word)) → AnsweredBy q f → Judged f
+      go complete number filler pattern tests (found c k d e) =
           record {
             word = c;
-            places = dist (protected f) c;
+            places = hitsBy q (add (protected f) c);
             pattern = fittingPattern (syncIn f);
             differing = fittingDiffering (syncIn f);
-            size = size;
+            complete = complete;
             filler = eqb-true (fieldAt f 204 4) 0 (not-false (eqb (fieldAt f 204 4) 0) filler);
             sync = fitting (syncIn f) (eqb-true (syncNumber (syncIn f)) 0 (not-false (eqb (syncNumber (syncIn f)) 0) pattern));
             code-word = k;
+            counted = refl;
+            few = d;
             repaired = e;
             tests = subst (λ (a : Answer). NoneGiven (afterRepair ed (a .word))) e tests;
           }
-      go size number filler pattern tests (none n) =
-          let z : _≡_ {A = ℕ} 4 0 = sym (ap numberOf (repair-none f size n)) ∙ number in absurd (omega arith)
+      go complete number filler pattern tests (far n e) = let z : _≡_ {A = ℕ} 4 0 = sym (ap numberOf e) ∙ number in absurd (omega arith)
 
   -- a frame whose word is repaired is judged by the repaired word
-  pub repaired-refusal : (f : List ℕ) (w : List Bool) (n : ℕ) → length f ≡ 26 → fieldAt f 204 4 ≡ 0 → syncNumber (syncIn f) ≡ 0 → repairOf f ≡ repairedTo w n
-      → frameRefusal ed f ≡ firstRefusal (afterRepair ed (wordBytes w))
-  unfolding frameRefusal
-  repaired-refusal f w n size filler pattern e =
-      refusal-later 1 _ (ap not (eq-eqb (length f) 26 size))
+  pub repaired-refusal : (f : List ℕ) (w : List Bool) (n : ℕ) → whole q f ≡ true → fieldAt f 204 4 ≡ 0 → syncNumber (syncIn f) ≡ 0 → repairBy q f ≡ repairedTo w n
+      → refusalBy ed q f ≡ firstRefusal (afterRepair ed (wordBytes w))
+  unfolding refusalBy
+  repaired-refusal f w n complete filler pattern e =
+      refusal-later 1 _ (ap not complete)
       ∙ refusal-later 2 _ (ap not (eq-eqb (fieldAt f 204 4) 0 filler))
       ∙ refusal-later 3 _ (ap not (eq-eqb (syncNumber (syncIn f)) 0 pattern))
       ∙ refusal-later 4 _ (ap (λ (a : Answer). not (eqb (numberOf a) 0)) e)
       ∙ ap (λ (a : Answer). firstRefusal (afterRepair ed (a .word))) e
 
   module _ (f : List ℕ) (j : Judged f) where
-    pub judged-accepted : frameRefusal ed f ≡ 0
-    judged-accepted = repaired-refusal f (j .word) (j .places) (j .size) (j .filler) (ap syncNumber (j .sync)) (j .repaired) ∙ none-refusal (afterRepair ed (wordBytes (j .word))) (j .tests)
+    pub judged-size : length f ≡ 26
+    judged-size = whole-frame q f (j .complete)
 
-    pub judged-places : placesIn ed f ≡ j .places
-    unfolding placesIn
+    pub judged-accepted : refusalBy ed q f ≡ 0
+    judged-accepted = repaired-refusal f (j .word) (j .places) (j .complete) (j .filler) (ap syncNumber (j .sync)) (j .repaired) ∙ none-refusal (afterRepair ed (wordBytes (j .word))) (j .tests)
+
+    pub judged-places : placesBy ed q f ≡ j .places
+    unfolding placesBy
     judged-places = rw (judged-accepted, j .repaired)
 
-    judged-origin : (t : Tuner) → originIn ed t f ≡ record { tuner = t; repaired = j .places }
+    judged-origin : (t : Tuner) → originIn ed q t f ≡ record { tuner = t; repaired = j .places }
     judged-origin t = ap (λ (n : ℕ). record { tuner = t; repaired = n }) judged-places
 
-    judged-contents : contentsIn ed f ≡ recordIn ed (fieldAt f 0 1) (j .pattern) (wordBytes (j .word))
+    judged-contents : contentsIn ed q f ≡ recordIn ed (fieldAt f 0 1) (j .pattern) (wordBytes (j .word))
     judged-contents = ap₂ (λ (p : ℕ) (a : Answer). recordIn ed (fieldAt f 0 1) p (a .word)) (ap fittingPattern (j .sync)) (j .repaired)
 
-    pub judged-read : (t : Tuner) → readOf ed t f
+    pub judged-read : (t : Tuner) → readBy ed q t f
         ≡ Accepted (withOrigin (record { tuner = t; repaired = j .places }) (recordIn ed (fieldAt f 0 1) (j .pattern) (wordBytes (j .word)))) (j .differing)
-    unfolding readOf
+    unfolding readBy
     judged-read t =
         rw judged-accepted
         (ap₂ Accepted (ap₂ (λ (o : Origin) (r : Record). withOrigin o r) (judged-origin t) judged-contents) (ap fittingDiffering (j .sync)))
 
-    -- the word differs from the received bits in as many places, at most eight
-    pub judged-dist : (j .places ≡ dist (protected f) (j .word)) × (j .places ≤ 8)
-    judged-dist = go (nearest (protected f) (length-protected f (j .size)))
-      where
-        go : Nearest (protected f) → (j .places ≡ dist (protected f) (j .word)) × (j .places ≤ 8)
-        go (one c k d) =
-            let w = j .word in
-            let same = same-answer c w (dist (protected f) c) (j .places) (sym (repair-found f (j .size) c k d) ∙ j .repaired) in
-            let n : dist (protected f) c ≡ j .places = same .0 in
-            let e : c ≡ w = sym (protected-wordBytes c (length-word c k)) ∙ ap protected (same .1) ∙ protected-wordBytes w (length-word w (j .code-word)) in
-            (sym n ∙ ap (dist (protected f)) e, omega arith)
-        go (none n) =
-            let z : _≡_ {A = ℕ} 4 0 = ap numberOf (sym (repair-none f (j .size) n) ∙ j .repaired) in absurd (omega arith)
-
+module _ (ed : Edition) where
   -- ---- the record that is read
 
   -- the body is chosen by what stands in the details

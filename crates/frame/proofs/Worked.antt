@@ -16,13 +16,15 @@ use Rattle.bits.proofs.Computed.{below, below-at, T-not}
 use Rattle.bits.proofs.Layouts.{fitb-fit}
 use Rattle.bits.proofs.Refusal.{refusal-here, refusal-later, refusal-append-given}
 use Rattle.gf2.specs.Polynomial.{add}
-use Rattle.dsc.specs.Repair.{numberOf, repairOf}
+use Rattle.dsc.specs.Repair.{numberOf}
+use Rattle.dsc.specs.Marks.{unmarked, repairBy}
+use Rattle.dsc.proofs.MarkedAnswers.{sized-whole}
 use Rattle.sync_pattern.specs.Pattern.{syncNumber, differingFrom, syncOf}
 use Rattle.frame.specs.Identification.{classOf, isUndefined}
 use Rattle.frame.specs.Body.{row, layout}
 use Rattle.frame.specs.Fields.{fields, scatter, fieldWidths, recordBody, overLimit}
 use Rattle.frame.specs.Area.{warnedIn}
-use Rattle.frame.specs.Read.{beforeRepair, afterRepair, frameRefusal, readOf}
+use Rattle.frame.specs.Read.{beforeRepair, afterRepair, refusalBy, frameRefusal, readOf}
 use Rattle.frame.specs.Write.{Legal, recordRefusal, frameOf}
 use Rattle.frame.specs.Worked.{AtLatitude, atLatitude, Worked, areaRecord}
 use Rattle.frame.specs.declared.Edition.the-variants.{First}
@@ -66,20 +68,20 @@ not-read t r a =
     let g = fit 901 r a in
     let o = own-outside First r g in
     let e : frameRefusal First f ≡ 9 =
-    repaired-refusal First f (wordOf First r) 0 (length-frame First r) (o .filler) (ap syncNumber (o .sync)) (repair-own First r)
+    repaired-refusal First unmarked f (wordOf First r) 0 (sized-whole unmarked f (length-frame First r) tt) (o .filler) (ap syncNumber (o .sync)) (repair-own First r)
     ∙ found-refusal First r g (known 901 r a) ∙ refusal-here 9 [] (limits 901 r a) in
-    refused-read First t f (λ z. omega arith) ∙ ap Refused e
+    refused-read First unmarked t f (λ z. omega arith) ∙ ap Refused e
 
 some : (n : ℕ) → n < 1024 → AtLatitude n (atLatitude n)
 unfolding atLatitude classOf row layout scatter fieldWidths freeWidths
 some n h = record { body = refl; fit = rw (lt-ltb n 1024 h); longitude = omega arith; latitude = refl }
 
 zero-bytes : (t : Tuner) → readOf First t (replicate 26 0) ≡ Refused 3
-unfolding frameRefusal firstRefusal syncOf differingFrom add bits bitsOf odd value digit
+unfolding refusalBy firstRefusal syncOf differingFrom add bits bitsOf odd value digit
 zero-bytes t =
     let f : List ℕ = replicate 26 0 in
-    let e : frameRefusal First f ≡ 3 = refusal-append-given (beforeRepair f) ((4, not (eqb (numberOf (repairOf f)) 0)) ∷ afterRepair First (repairOf f .word)) 3 (omega arith) refl in
-    refused-read First t f (λ z. omega arith) ∙ ap Refused e
+    let e : frameRefusal First f ≡ 3 = refusal-append-given (beforeRepair unmarked f) ((4, not (eqb (numberOf (repairBy unmarked f)) 0)) ∷ afterRepair First (repairBy unmarked f .word)) 3 (omega arith) refl in
+    refused-read First unmarked t f (λ z. omega arith) ∙ ap Refused e
 
 all-test : T (below 56 (λ k. warnedIn (areaRecord 0) k))
 unfolding below warnedIn areaRecord odd
@@ -112,7 +114,7 @@ worked =
       example8-not-read = not-read;
       example8-some = some;
       example10 = zero-bytes;
-      frame-order = λ ed f. refl;
+      frame-order = λ ed q f. refl;
       record-order = λ ed r. refl;
       all-warned = λ k h. T-true (warnedIn (areaRecord 0) k) (below-at 56 (λ k. warnedIn (areaRecord 0) k) all-test k h);
       tokyo-warned = tokyo;

@@ -1,4 +1,5 @@
--- Judging and reading a frame (document 01, "When the box says no"; document 02, a), e) and j), by the edition named. Assumes nothing.
+-- Judging and reading a frame (document 01, "When the box says no"; document 02, a), e), j) and d), by the edition named. A frame may come with doubtful marks:
+-- then the repair with marks stands in the place of demand 3's, and the rest is the same. Assumes nothing.
 use mathlib.Core.Bool.{Bool, cond, not}
 use mathlib.Core.List.{List, [], _∷_, _++_}
 use Prim.Native.Nat.{ℕ}
@@ -10,7 +11,8 @@ use Rattle.bits.specs.Field.{fieldAt}
 use Rattle.bits.specs.Segment.{unpackSegments, fixedBitsHold}
 use Rattle.bits.specs.Refusal.{firstRefusal}
 use Rattle.crc.specs.Crc.{crc10Of}
-use Rattle.dsc.specs.Repair.{protected, numberOf, placesOf, repairOf}
+use Rattle.dsc.specs.Repair.{protected, numberOf, placesOf}
+use Rattle.dsc.specs.Marks.{Marking, unmarked, whole, repairBy}
 use Rattle.sync_pattern.specs.Pattern.{patternBits, syncOf, syncNumber, fittingPattern, fittingDiffering}
 use Rattle.sync_pattern.specs.declared.Sync.{Sync}
 use Rattle.frame.specs.Identification.{classOf, flagsWrong, isUndefined}
@@ -63,10 +65,10 @@ syncIn f = syncOf (syncBits f)
 
 -- ---- the tests, in order
 
--- before the repair
-abbrev pub beforeRepair : List ℕ → List (ℕ × Bool)
-beforeRepair f =
-    (1, not (eqb (length f) 26))
+-- before the repair: the size of the frame, and of its marks where it comes with marks, the filler, the pattern
+abbrev pub beforeRepair : Marking → List ℕ → List (ℕ × Bool)
+beforeRepair q f =
+    (1, not (whole q f))
     ∷ (2, not (eqb (fieldAt f 204 4) 0))
     ∷ (3, not (eqb (syncNumber (syncIn f)) 0))
     ∷ []
@@ -82,34 +84,34 @@ afterRepair ed c =
     ∷ []
 
 -- 1 to 9: the repair gives 4 or nothing, since the frame has 26 bytes by then
-abbrev pub frameTests : Edition → List ℕ → List (ℕ × Bool)
-frameTests ed f = beforeRepair f ++ (4, not (eqb (numberOf (repairOf f)) 0)) ∷ afterRepair ed (repairOf f .word)
+abbrev pub frameTests : Edition → Marking → List ℕ → List (ℕ × Bool)
+frameTests ed q f = beforeRepair q f ++ (4, not (eqb (numberOf (repairBy q f)) 0)) ∷ afterRepair ed (repairBy q f .word)
 
-unfoldable pub frameRefusal : Edition → List ℕ → ℕ
-frameRefusal ed f = firstRefusal (frameTests ed f)
+unfoldable pub refusalBy : Edition → Marking → List ℕ → ℕ
+refusalBy ed q f = firstRefusal (frameTests ed q f)
 
 -- the number of repaired places of an accepted frame, 0 of another
-unfoldable pub placesIn : Edition → List ℕ → ℕ
-placesIn ed f = cond (eqb (frameRefusal ed f) 0) (placesOf (repairOf f)) 0
+unfoldable pub placesBy : Edition → Marking → List ℕ → ℕ
+placesBy ed q f = cond (eqb (refusalBy ed q f) 0) (placesOf (repairBy q f)) 0
 
 -- where the record of an accepted frame came from: the tuner t that the reader is told, and the number of repaired places
-abbrev pub originIn : Edition → Tuner → List ℕ → Origin
-originIn ed t f = record { tuner = t; repaired = placesIn ed f }
+abbrev pub originIn : Edition → Marking → Tuner → List ℕ → Origin
+originIn ed q t f = record { tuner = t; repaired = placesBy ed q f }
 
 -- what an accepted frame says: reference and pattern as they were received, all else by the repaired word
-abbrev pub contentsIn : Edition → List ℕ → Record
-contentsIn ed f = recordIn ed (fieldAt f 0 1) (fittingPattern (syncIn f)) (repairOf f .word)
+abbrev pub contentsIn : Edition → Marking → List ℕ → Record
+contentsIn ed q f = recordIn ed (fieldAt f 0 1) (fittingPattern (syncIn f)) (repairBy q f .word)
 
--- what `judge` answers
-unfoldable pub judgeOf : Edition → List ℕ → Verdict
-judgeOf ed f = record { number = frameRefusal ed f; repaired = placesIn ed f }
+-- what judging answers
+unfoldable pub judgeBy : Edition → Marking → List ℕ → Verdict
+judgeBy ed q f = record { number = refusalBy ed q f; repaired = placesBy ed q f }
 
--- what `read` answers, told the tuner t: what the frame says and where it came from, and beside that the bits that differed from the pattern
-unfoldable pub readOf : Edition → Tuner → List ℕ → Reading
-readOf ed t f =
-    cond (eqb (frameRefusal ed f) 0)
-    (Accepted (withOrigin (originIn ed t f) (contentsIn ed f)) (fittingDiffering (syncIn f)))
-    (Refused (frameRefusal ed f))
+-- what reading answers, told the tuner t: what the frame says and where it came from, and beside that the bits that differed from the pattern
+unfoldable pub readBy : Edition → Marking → Tuner → List ℕ → Reading
+readBy ed q t f =
+    cond (eqb (refusalBy ed q f) 0)
+    (Accepted (withOrigin (originIn ed q t f) (contentsIn ed q f)) (fittingDiffering (syncIn f)))
+    (Refused (refusalBy ed q f))
 
 -- the documents' number and values of a reading: 0 with the record's fields, its tuner and its repaired places, and with the differing bits; or the
 -- refusal's number and nothing else
@@ -133,13 +135,37 @@ abbrev pub readingFields : Reading → List ℕ
 readingFields (Accepted r d) = fields r
 readingFields (Refused n) = []
 
+-- what judging says of it
+abbrev pub readingVerdict : Reading → Verdict
+readingVerdict a = record { number = readingNumber a; repaired = readingPlaces a }
+
 -- ---- the frame with its damage repaired: its reference, the pattern's own bits, the repaired word, the filler
 
-unfoldable pub cleanOf : List ℕ → List ℕ
-cleanOf f =
+unfoldable pub cleanBy : Marking → List ℕ → List ℕ
+cleanBy q f =
     bytes 26
-    (bitsOf 1 (fieldAt f 0 1) ++ (patternBits (fittingPattern (syncIn f)) ++ (protected (repairOf f .word) ++ zeros 4)))
+    (bitsOf 1 (fieldAt f 0 1) ++ (patternBits (fittingPattern (syncIn f)) ++ (protected (repairBy q f .word) ++ zeros 4)))
 
--- what `clean` answers: the refusal's number, and the frame with its damage repaired, or 26 zeros where it is refused
-unfoldable pub cleanedOf : Edition → List ℕ → Cleaned
-cleanedOf ed f = record { number = frameRefusal ed f; frame = cond (eqb (frameRefusal ed f) 0) (cleanOf f) (replicate 26 0) }
+-- what cleaning answers: the refusal's number, and the frame with its damage repaired, or 26 zeros where it is refused
+unfoldable pub cleanedBy : Edition → Marking → List ℕ → Cleaned
+cleanedBy ed q f = record { number = refusalBy ed q f; frame = cond (eqb (refusalBy ed q f) 0) (cleanBy q f) (replicate 26 0) }
+
+-- ---- the same of a frame without marks, as document 01 has it
+
+abbrev pub frameRefusal : Edition → List ℕ → ℕ
+frameRefusal ed f = refusalBy ed unmarked f
+
+abbrev pub placesIn : Edition → List ℕ → ℕ
+placesIn ed f = placesBy ed unmarked f
+
+abbrev pub judgeOf : Edition → List ℕ → Verdict
+judgeOf ed f = judgeBy ed unmarked f
+
+abbrev pub readOf : Edition → Tuner → List ℕ → Reading
+readOf ed t f = readBy ed unmarked t f
+
+abbrev pub cleanOf : List ℕ → List ℕ
+cleanOf f = cleanBy unmarked f
+
+abbrev pub cleanedOf : Edition → List ℕ → Cleaned
+cleanedOf ed f = cleanedBy ed unmarked f

@@ -1,26 +1,25 @@
 -- The frame with its damage repaired: the reference and the pattern put into the repaired word. Assumes nothing.
-use mathlib.Core.Path.{_≡_, refl, sym, ap, _∙_}
-use mathlib.Core.Bool.{Bool, cond}
+use mathlib.Core.Path.{_≡_, refl, sym, ap, ap₂, _∙_}
+use mathlib.Core.Bool.{Bool, true, false, cond}
 use mathlib.Core.List.{List, _++_}
 use Prim.Native.Nat.{ℕ}
-use native.Mathlib.Omega.{arith}
+use lib.Dec.{eqb}
 use lib.ListN.{length, drop, replicate}
 use lib.Seq.{paste, drop-drop}
-use borrow.Author.Tests.{eq-eqb, ne-eqb, eqb-true, not-false}
+use borrow.Author.Tests.{eqb-true}
 use Rattle.bits.specs.Bits.{bits, bytes, bitsOf}
 use Rattle.bits.specs.Field.{fieldAt, putBits, within, putOf}
 use Rattle.bits.proofs.Field.{bits-putOf, length-putOf}
-use Rattle.bits.proofs.Refusal.{refusal-none}
 use Rattle.gf2.specs.Polynomial.{zeros}
-use Rattle.dsc.specs.Repair.{protected, numberOf, repairOf}
-use Rattle.dsc.proofs.Answers.{length-protected, length-wordBytes, bits-wordBytes, protected-wordBytes, answered, repair-found, repair-none}
-use Rattle.dsc.proofs.Decoding.{Nearest, one, none, nearest}
+use Rattle.dsc.specs.Repair.{protected}
+use Rattle.dsc.specs.Marks.{Marking, repairBy}
+use Rattle.dsc.specs.declared.Answer.{Answer}
+use Rattle.dsc.proofs.Answers.{length-wordBytes, bits-wordBytes, protected-wordBytes}
 use Rattle.dsc.proofs.Word.{length-word}
 use Rattle.sync_pattern.specs.Pattern.{patternWord, fittingPattern}
 use Rattle.frame.specs.Fields.{recordFrom, withOrigin}
-use Rattle.frame.specs.Read.{syncIn, frameRefusal, contentsIn, readOf, cleanOf}
-use Rattle.frame_reader.specs.Examined.{examinedOf}
-use Rattle.frame.specs.Read.{cleanedOf}
+use Rattle.frame.specs.Read.{syncIn, refusalBy, originIn, contentsIn, readBy, cleanBy, cleanedBy}
+use Rattle.frame_reader.specs.Examined.{examinedBy, cleanedFrom}
 use Rattle.frame.specs.declared.Edition.{Edition}
 use Rattle.frame.specs.declared.Tuner.{Tuner}
 use Rattle.frame.specs.declared.Origin.{Origin}
@@ -29,7 +28,7 @@ use Rattle.frame_reader.specs.declared.Examined.{Examined}
 use Rattle.frame.specs.declared.Cleaned.{Cleaned}
 use Rattle.frame.specs.declared.Reading.the-variants.{Accepted, Refused}
 use Rattle.frame.proofs.Bodies.{taken}
-use Rattle.frame_reader.proofs.ReadingExamined.{read-accepted, read-refused}
+use Rattle.frame.proofs.Readings.{Judged, accepted-judged}
 
 -- ---- 17 bits put in front
 
@@ -46,55 +45,49 @@ put-front w x y h =
     ∙ ap (λ b. bytes 26 (paste b 1 (bitsOf 16 y) 16)) first
     ∙ ap (bytes 26) (joined (bits w) x y)
 
-module _ (ed : Edition) where
-  -- ---- the word of an accepted frame
+-- ---- the word of an accepted frame, marked as q says
 
-  module _ (f : List ℕ) (e : frameRefusal ed f ≡ 0) where
-    untouched : (length f ≡ 26) × (numberOf (repairOf f) ≡ 0)
-    unfolding frameRefusal
-    untouched =
-        let g = refusal-none _ refl e in
-        (eqb-true (length f) 26 (not-false _ (g .0)), eqb-true (numberOf (repairOf f)) 0 (not-false _ (g .1 .1 .1 .0)))
+module _ (ed : Edition) (q : Marking) (f : List ℕ) (j : Judged ed q f) where
+  word-length : length (repairBy q f .word) ≡ 26
+  word-length = ap (λ (a : Answer). length (a .word)) (j .repaired) ∙ length-wordBytes (j .word)
 
-    word-length : length (repairOf f .word) ≡ 26
-    word-length = answered f (λ r. length (r .word) ≡ 26) (λ c n. length-wordBytes c) refl refl
+  after-front : drop 17 (bits (repairBy q f .word)) ≡ protected (repairBy q f .word) ++ zeros 4
+  after-front =
+      let l = length-word (j .word) (j .code-word) in
+      rw (j .repaired, bits-wordBytes (j .word) l, protected-wordBytes (j .word) l)
 
-    after-front : drop 17 (bits (repairOf f .word)) ≡ protected (repairOf f .word) ++ zeros 4
-    after-front = go (nearest (protected f) (length-protected f (untouched .0)))
-      where
-        go : Nearest (protected f) → drop 17 (bits (repairOf f .word)) ≡ protected (repairOf f .word) ++ zeros 4
-        go (one c k d) =
-            let l = length-word c k in
-            rw (repair-found f (untouched .0) c k d, bits-wordBytes c l, protected-wordBytes c l)
-        go (none n) = let z : _≡_ {A = ℕ} 4 0 = sym (ap numberOf (repair-none f (untouched .0) n)) ∙ untouched .1 in absurd (omega arith)
+  cleaned-bytes : (o : Origin) (r : Record) → r ≡ withOrigin o (contentsIn ed q f)
+      → putOf (putOf (repairBy q f .word) 0 1 (r .reference)) 1 16 (patternWord (r .pattern)) ≡ cleanBy q f
+  unfolding cleanBy recordFrom
+  cleaned-bytes o r er =
+      let a : r .reference ≡ fieldAt f 0 1 = ap (λ (k : Record). k .reference) er ∙ taken _ _ _ _ _ _ .reference in
+      let b : r .pattern ≡ fittingPattern (syncIn f) = ap (λ (k : Record). k .pattern) er ∙ taken _ _ _ _ _ _ .pattern in
+      put-front (repairBy q f .word) (r .reference) (patternWord (r .pattern)) word-length
+      ∙ rw (a, b, after-front)
 
-    cleaned-bytes : (o : Origin) (r : Record) → r ≡ withOrigin o (contentsIn ed f)
-        → putOf (putOf (repairOf f .word) 0 1 (r .reference)) 1 16 (patternWord (r .pattern)) ≡ cleanOf f
-    unfolding cleanOf recordFrom
-    cleaned-bytes o r er =
-        let a : r .reference ≡ fieldAt f 0 1 = ap (λ (k : Record). k .reference) er ∙ taken _ _ _ _ _ _ .reference in
-        let b : r .pattern ≡ fittingPattern (syncIn f) = ap (λ (k : Record). k .pattern) er ∙ taken _ _ _ _ _ _ .pattern in
-        put-front (repairOf f .word) (r .reference) (patternWord (r .pattern)) word-length
-        ∙ rw (a, b, after-front)
+-- ---- what was examined, cleaned
 
-  -- ---- what `clean` answers
+module _ (x : Examined) where
+  pub none-cleaned : (n : ℕ) → x .reading ≡ Refused n → _≡_ {A = Cleaned} (record { number = n; frame = replicate 26 0 }) (cleanedFrom x)
+  unfolding cleanedFrom
+  none-cleaned n e = λ i. cleanedFrom (record { reading = sym e i; word = x .word })
 
-  module _ (t : Tuner) (f : List ℕ) (x : Examined) (ex : x ≡ examinedOf ed t f) where
-    read-is : x .reading ≡ readOf ed t f
-    unfolding examinedOf
-    read-is = ap (λ (k : Examined). k .reading) ex
+  -- s holds the word with the reference put, g the pattern too
+  pub put-cleaned : (r : Record) (d : ℕ) (s g : List ℕ) (y : ℕ) → x .reading ≡ Accepted r d
+      → s ≡ putOf (x .word) 0 1 (r .reference) → y ≡ patternWord (r .pattern) → g ≡ putOf s 1 16 y
+      → _≡_ {A = Cleaned} (record { number = 0; frame = g }) (cleanedFrom x)
+  unfolding cleanedFrom
+  put-cleaned r d s g y e es ey eg =
+      ap (λ (b : List ℕ). record { number = 0; frame = b }) (eg ∙ ap₂ (λ (b : List ℕ) (n : ℕ). putOf b 1 16 n) es ey)
+      ∙ (λ i. cleanedFrom (record { reading = sym e i; word = x .word }))
 
-    pub cleaned-refused : (n : ℕ) → x .reading ≡ Refused n → _≡_ {A = Cleaned} (record { number = n; frame = replicate 26 0 }) (cleanedOf ed f)
-    unfolding cleanedOf
-    cleaned-refused n e = let a = read-refused ed t f n (sym read-is ∙ e) in rw (a .number, ne-eqb n 0 (a .some))
-
-    -- s holds the word with the reference put, g the pattern too
-    pub cleaned-accepted : (r : Record) (d : ℕ) (s g : List ℕ) (y : ℕ) → x .reading ≡ Accepted r d
-        → s ≡ putOf (x .word) 0 1 (r .reference) → y ≡ patternWord (r .pattern) → g ≡ putOf s 1 16 y
-        → _≡_ {A = Cleaned} (record { number = 0; frame = g }) (cleanedOf ed f)
-    unfolding cleanedOf examinedOf
-    cleaned-accepted r d s g y e es ey eg =
-        let a = read-accepted ed t f r d (sym read-is ∙ e) in
-        let w : x .word ≡ repairOf f .word = ap (λ (k : Examined). k .word) ex ∙ rw (eq-eqb (frameRefusal ed f) 0 (a .none)) in
-        let k : g ≡ cleanOf f = eg ∙ rw (es, ey, w) (cleaned-bytes f (a .none) _ r (a .contents)) in
-        rw (eq-eqb (frameRefusal ed f) 0 (a .none), a .none) (ap (λ (b : List ℕ). record { number = 0; frame = b }) k)
+pub cleaned-examined : (ed : Edition) (q : Marking) (t : Tuner) (f : List ℕ) → cleanedFrom (examinedBy ed q t f) ≡ cleanedBy ed q f
+unfolding cleanedFrom examinedBy readBy cleanedBy
+cleaned-examined ed q t f = go (eqb (refusalBy ed q f) 0) refl
+  where
+    go : (b : Bool) → eqb (refusalBy ed q f) 0 ≡ b → cleanedFrom (examinedBy ed q t f) ≡ cleanedBy ed q f
+    go true y =
+        let z = eqb-true (refusalBy ed q f) 0 y in
+        let k = cleaned-bytes ed q f (accepted-judged ed q f z) (originIn ed q t f) (withOrigin (originIn ed q t f) (contentsIn ed q f)) refl in
+        rw (y, z) (ap (λ (b : List ℕ). record { number = 0; frame = b }) k)
+    go false y = rw y refl

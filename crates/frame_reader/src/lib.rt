@@ -1,7 +1,9 @@
 // Reading a frame by the edition named: the tests in their order, and the record, with the tuner that the reader is told.
 ghost use mathlib.Core.Path.{_≡_};
-ghost use Rattle.frame.specs.Read.{readOf, judgeOf, cleanedOf};
-ghost use Rattle.frame_reader.specs.Examined.{examinedRefused, wordExamined, examinedOf};
+ghost use Rattle.dsc.specs.Marks.{unmarked};
+ghost use Rattle.frame.specs.Read.{readingVerdict, readOf, judgeOf, cleanedOf};
+ghost use Rattle.frame_reader.specs.Examined.{examinedRefused, wordExamined, answerExamined, examinedBy, cleanedFrom};
+use dsc::Answer;
 use dsc::Outcome;
 use frame::Cleaned;
 use frame::Edition;
@@ -18,7 +20,7 @@ pub struct Examined {
 }
 
 // A refusal, with no word.
-fn refused(number: u8) -> Examined
+pub fn refused(number: u8) -> Examined
     ensures { λ r. ⌜ r ≡ examinedRefused number ⌝ }
 {
     Examined {
@@ -51,41 +53,47 @@ fn examine_word(
     }
 }
 
+// The repair's answer to a frame that has passed the tests before it, tested and read.
+pub fn examine_answer(
+    edition: Edition,
+    tuner: Tuner,
+    reference: u64,
+    pattern: u64,
+    differing: u8,
+    answer: Answer,
+) -> Examined
+    ensures { λ r. ⌜ r ≡ answerExamined edition tuner reference pattern differing answer ⌝ }
+{
+    let outcome = answer.outcome;
+    match outcome {
+        Outcome::Repaired(repaired) => {
+            let origin = Origin { tuner, repaired };
+            let word = answer.word;
+            examine_word(edition, origin, reference, pattern, differing, word)
+        }
+        // the frame has 26 bytes, so there is no code word near enough
+        Outcome::Refused(_) => refused(4),
+    }
+}
+
 // Any bytes, tested in the order of the refusals and read.
 fn examine(edition: Edition, tuner: Tuner, frame: &[u8]) -> Examined
-    ensures { λ r. ⌜ r ≡ examinedOf edition tuner (now (frame .entry)) ⌝ }
+    ensures { λ r. ⌜ r ≡ examinedBy edition unmarked tuner (now (frame .entry)) ⌝ }
 {
     match frame_refusals::preamble_of(frame) {
         Preamble::Passed(reference, pattern, differing) => {
             let answer = dsc_codec::repair(frame);
-            let outcome = answer.outcome;
-            match outcome {
-                Outcome::Repaired(repaired) => {
-                    let origin = Origin { tuner, repaired };
-                    let word = answer.word;
-                    examine_word(edition, origin, reference, pattern, differing, word)
-                }
-                // the frame has 26 bytes, so there is no code word within eight places
-                Outcome::Refused(_) => refused(4),
-            }
+            examine_answer(edition, tuner, reference, pattern, differing, answer)
         }
         Preamble::Refused(number) => refused(number),
     }
 }
 
-// The record of a frame, with the tuner told and the number of repaired places, and beside it the bits of B1 to B16 that differed; or the refusal.
-pub fn read(edition: Edition, tuner: Tuner, frame: &[u8]) -> Reading
-    ensures { λ r. ⌜ r ≡ readOf edition tuner (now (frame .entry)) ⌝ }
+// What judging says of a reading: the refusal's number, or 0 with the number of repaired places.
+pub fn verdict_of(reading: Reading) -> Verdict
+    ensures { λ r. ⌜ r ≡ readingVerdict reading ⌝ }
 {
-    let examined = examine(edition, tuner, frame);
-    examined.reading
-}
-
-// Whether a frame is accepted: the refusal's number, or 0 with the number of its repaired places.
-pub fn judge(edition: Edition, frame: &[u8]) -> Verdict
-    ensures { λ r. ⌜ r ≡ judgeOf edition (now (frame .entry)) ⌝ }
-{
-    match read(edition, Tuner::None, frame) {
+    match reading {
         Reading::Accepted(contents, _) => Verdict {
             number: 0,
             repaired: contents.origin.repaired,
@@ -98,10 +106,9 @@ pub fn judge(edition: Edition, frame: &[u8]) -> Verdict
 }
 
 // The frame with its damage repaired, and the pattern's own bits.
-pub fn clean(edition: Edition, frame: &[u8]) -> Cleaned
-    ensures { λ r. ⌜ r ≡ cleanedOf edition (now (frame .entry)) ⌝ }
+pub fn cleaned_of(examined: Examined) -> Cleaned
+    ensures { λ r. ⌜ r ≡ cleanedFrom examined ⌝ }
 {
-    let examined = examine(edition, Tuner::None, frame);
     let reading = examined.reading;
     match reading {
         Reading::Accepted(contents, _) => {
@@ -123,4 +130,26 @@ pub fn clean(edition: Edition, frame: &[u8]) -> Cleaned
             frame: [0; 26],
         },
     }
+}
+
+// The record of a frame, with the tuner told and the number of repaired places, and beside it the bits of B1 to B16 that differed; or the refusal.
+pub fn read(edition: Edition, tuner: Tuner, frame: &[u8]) -> Reading
+    ensures { λ r. ⌜ r ≡ readOf edition tuner (now (frame .entry)) ⌝ }
+{
+    let examined = examine(edition, tuner, frame);
+    examined.reading
+}
+
+// Whether a frame is accepted: the refusal's number, or 0 with the number of its repaired places.
+pub fn judge(edition: Edition, frame: &[u8]) -> Verdict
+    ensures { λ r. ⌜ r ≡ judgeOf edition (now (frame .entry)) ⌝ }
+{
+    verdict_of(read(edition, Tuner::None, frame))
+}
+
+// The frame with its damage repaired.
+pub fn clean(edition: Edition, frame: &[u8]) -> Cleaned
+    ensures { λ r. ⌜ r ≡ cleanedOf edition (now (frame .entry)) ⌝ }
+{
+    cleaned_of(examine(edition, Tuner::None, frame))
 }

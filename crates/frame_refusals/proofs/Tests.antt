@@ -15,6 +15,7 @@ use Rattle.bits.specs.Refusal.{firstRefusal}
 use Rattle.bits.proofs.Bits.{bits-drop}
 use Rattle.bits.proofs.Refusal.{Tested, end, met, unmet, tested}
 use Rattle.crc.specs.Crc.{crc10Of}
+use Rattle.dsc.specs.Marks.{unmarked}
 use Rattle.sync_pattern.specs.Pattern.{syncOf, syncNumber, fittingPattern, fittingDiffering}
 use Rattle.sync_pattern.specs.declared.Sync.{Sync}
 use Rattle.sync_pattern.specs.declared.Sync.the-variants.{Fits, Neither}
@@ -42,7 +43,7 @@ got s k w n h t e =
 -- ---- before the repair
 
 module _ (f : List ℕ) where
-  refused-with : (n : ℕ) → 0 < n → n ≡ firstRefusal (beforeRepair f) → Refused n ≡ preambleOf f
+  refused-with : (n : ℕ) → 0 < n → n ≡ firstRefusal (beforeRepair unmarked f) → Refused n ≡ preambleOf f
   unfolding preambleOf
   refused-with n p e = rw (sym e, ne-eqb n 0 (λ z. omega arith))
 
@@ -65,7 +66,7 @@ module _ (f : List ℕ) where
       read-sync : y ≡ syncIn f
       read-sync = ey ∙ ap syncOf (ap (bitsOf 16) (got f 1 16 n h refl en) ∙ part-bits 1 16 (bits f) (omega (arith, frame-bits f h)))
 
-      past-filler : {k : ℕ} → Tested (drop 2 (beforeRepair f)) k → k ≡ firstRefusal (beforeRepair f)
+      past-filler : {k : ℕ} → Tested (drop 2 (beforeRepair unmarked f)) k → k ≡ firstRefusal (beforeRepair unmarked f)
       past-filler t =
           tested (unmet (ap not (eq-eqb (length f) 26 h)) (unmet (ap not (eq-eqb (fieldAt f 204 4) 0 (sym field-filler ∙ z))) t))
 
@@ -85,14 +86,14 @@ module _ (f : List ℕ) where
 
 -- nothing is refused, and these stand before the word
 pub record PreamblePassed (f : List ℕ) (x p d : ℕ) : Type 0 where
-  pub none : firstRefusal (beforeRepair f) ≡ 0
+  pub none : firstRefusal (beforeRepair unmarked f) ≡ 0
   pub reference : x ≡ fieldAt f 0 1
   pub pattern : p ≡ fittingPattern (syncIn f)
   pub differing : d ≡ fittingDiffering (syncIn f)
 
 -- or the answer is a number, which is not 0
 pub record PreambleRefused (f : List ℕ) (n : ℕ) : Type 0 where
-  pub number : n ≡ firstRefusal (beforeRepair f)
+  pub number : n ≡ firstRefusal (beforeRepair unmarked f)
   pub some : n ≡ 0 → ⊥
 
 -- what an answer says
@@ -102,10 +103,10 @@ SaidIn f (Refused n) = PreambleRefused f n
 
 said : (f : List ℕ) → SaidIn f (preambleOf f)
 unfolding preambleOf SaidIn
-said f = go (eqb (firstRefusal (beforeRepair f)) 0) refl
+said f = go (eqb (firstRefusal (beforeRepair unmarked f)) 0) refl
   where
     m : ℕ
-    m = firstRefusal (beforeRepair f)
+    m = firstRefusal (beforeRepair unmarked f)
 
     go : (t : Bool) → eqb m 0 ≡ t → SaidIn f (cond t (Passed (fieldAt f 0 1) (fittingPattern (syncIn f)) (fittingDiffering (syncIn f))) (Refused m))
     go true q = record { none = eqb-true m 0 q; reference = refl; pattern = refl; differing = refl }

@@ -14,8 +14,8 @@ use Rattle.bits.specs.Refusal.{firstRefusal, orElse}
 use Rattle.bits.proofs.Bits.{length-bits, length-bytes, bytes-bits, bytes-Bytes}
 use Rattle.gf2.specs.Polynomial.{zeros, add}
 use Rattle.sync_pattern.specs.Pattern.{patternBits, differingFrom, syncOf}
-use Rattle.dsc.specs.Repair.{repairOf}
-use Rattle.frame.specs.Read.{identificationIn, frameRefusal, judgeOf, readOf, cleanOf}
+use Rattle.dsc.specs.Marks.{Marking, unmarked, repairBy}
+use Rattle.frame.specs.Read.{identificationIn, refusalBy, judgeBy, readBy, readOf, cleanBy, cleanOf}
 use Rattle.frame.specs.Promises.{NotSafety, ComesBack}
 use Rattle.frame.specs.declared.Edition.{Edition}
 use Rattle.frame.specs.Write.{frameOf, Legal}
@@ -59,19 +59,19 @@ unfolding takeOutOf
 taken-unchanged h n = rw (ne-eqb (headerRefusal h) 0 n)
 
 -- the 204 bits that are laid in
-pub length-clean : (f : List ℕ) → length (cleanOf f) ≡ 26
-unfolding cleanOf
-length-clean f = length-bytes 26 _
+pub length-clean : (q : Marking) (f : List ℕ) → length (cleanBy q f) ≡ 26
+unfolding cleanBy
+length-clean q f = length-bytes 26 _
 
-Bytes-clean : (f : List ℕ) → Bytes (cleanOf f)
-unfolding cleanOf
-Bytes-clean f = bytes-Bytes 26 _
+Bytes-clean : (q : Marking) (f : List ℕ) → Bytes (cleanBy q f)
+unfolding cleanBy
+Bytes-clean q f = bytes-Bytes 26 _
 
 first-204 : (g : List ℕ) → length g ≡ 26 → length (take 204 (bits g)) ≡ 204
 first-204 g h = length-take-le 204 (bits g) (omega (arith, length-bits g))
 
-length-repaired : (f : List ℕ) → length (repairedBits f) ≡ 204
-length-repaired f = first-204 (cleanOf f) (length-clean f)
+length-repaired : (q : Marking) (f : List ℕ) → length (repairedBits q f) ≡ 204
+length-repaired q f = first-204 (cleanBy q f) (length-clean q f)
 
 length-ones : length (replicate 204 true) ≡ 204
 length-ones = length-replicate 204 true
@@ -104,137 +104,140 @@ taking-out =
 
 -- ---- laying in
 
-module _ (ed : Edition) where
-  -- an empty header is refused with 1 and 26 zero bytes with 3: the answer is the header's number
-  both-refused : layInNumber ed [] (replicate 26 0) ≡ 1
-  unfolding layInNumber headerRefusal frameRefusal firstRefusal syncOf differingFrom add bits bitsOf odd value digit
-  both-refused = refl
+-- an empty header is refused with 1 and 26 zero bytes with 3: the answer is the header's number
+both-refused : (ed : Edition) → layInNumber ed unmarked [] (replicate 26 0) ≡ 1
+unfolding layInNumber headerRefusal refusalBy firstRefusal syncOf differingFrom add bits bitsOf odd value digit
+both-refused ed = refl
 
+module _ (ed : Edition) (q : Marking) where
   module _ (h f : List ℕ) where
-    laid-none : layInNumber ed h f ≡ 0 → (headerRefusal h ≡ 0) × (frameRefusal ed f ≡ 0)
+    laid-none : layInNumber ed q h f ≡ 0 → (headerRefusal h ≡ 0) × (refusalBy ed q f ≡ 0)
     unfolding layInNumber
-    laid-none e = none-refused (headerRefusal h) (frameRefusal ed f) e
+    laid-none e = none-refused (headerRefusal h) (refusalBy ed q f) e
 
-    header-first : headerRefusal h ≢ 0 → layInNumber ed h f ≡ headerRefusal h
+    header-first : headerRefusal h ≢ 0 → layInNumber ed q h f ≡ headerRefusal h
     unfolding layInNumber
     header-first n = rw (ne-eqb (headerRefusal h) 0 n)
 
-    then-frame : headerRefusal h ≡ 0 → layInNumber ed h f ≡ frameRefusal ed f
+    then-frame : headerRefusal h ≡ 0 → layInNumber ed q h f ≡ refusalBy ed q f
     unfolding layInNumber
     then-frame e = rw e
 
-    pub laid-with : layInNumber ed h f ≡ 0 → layInOf ed h f ≡ withAc h (repairedBits f)
+    pub laid-with : layInNumber ed q h f ≡ 0 → layInOf ed q h f ≡ withAc h (repairedBits q f)
     unfolding layInOf
-    laid-with e = ap (λ (t : Bool). cond t (withAc h (repairedBits f)) h) (eq-eqb (layInNumber ed h f) 0 e)
+    laid-with e = ap (λ (t : Bool). cond t (withAc h (repairedBits q f)) h) (eq-eqb (layInNumber ed q h f) 0 e)
 
-    laid-unchanged : layInNumber ed h f ≢ 0 → layInOf ed h f ≡ h
+    laid-unchanged : layInNumber ed q h f ≢ 0 → layInOf ed q h f ≡ h
     unfolding layInOf
-    laid-unchanged n = rw (ne-eqb (layInNumber ed h f) 0 n)
+    laid-unchanged n = rw (ne-eqb (layInNumber ed q h f) 0 n)
 
-  module _ (h f : List ℕ) (e : layInNumber ed h f ≡ 0) where
+  module _ (h f : List ℕ) (e : layInNumber ed q h f ≡ 0) where
     header-accepted : headerRefusal h ≡ 0
     header-accepted = laid-none h f e .0
 
-    laid-accepted : headerRefusal (layInOf ed h f) ≡ 0
-    laid-accepted = ap headerRefusal (laid-with h f e) ∙ accepted-with h (repairedBits f) (length-repaired f) header-accepted
+    laid-accepted : headerRefusal (layInOf ed q h f) ≡ 0
+    laid-accepted = ap headerRefusal (laid-with h f e) ∙ accepted-with h (repairedBits q f) (length-repaired q f) header-accepted
 
-    laid-bits : acBits (layInOf ed h f) ≡ repairedBits f
-    laid-bits = ap acBits (laid-with h f e) ∙ withAc-bits h (repairedBits f) (size h header-accepted) (length-repaired f)
+    laid-bits : acBits (layInOf ed q h f) ≡ repairedBits q f
+    laid-bits = ap acBits (laid-with h f e) ∙ withAc-bits h (repairedBits q f) (size h header-accepted) (length-repaired q f)
 
-    laid-twice : (g : List ℕ) → frameRefusal ed g ≡ 0 → layInOf ed (layInOf ed h f) g ≡ layInOf ed h g
-    laid-twice g k =
-        laid-with (layInOf ed h f) g (then-frame (layInOf ed h f) g laid-accepted ∙ k)
-        ∙ ap (λ (x : List ℕ). withAc x (repairedBits g)) (laid-with h f e)
-        ∙ withAc-again h (repairedBits f) (size h header-accepted) (length-repaired f) (repairedBits g)
-        ∙ sym (laid-with h g (then-frame h g header-accepted ∙ k))
-
-    taken-laid : takeOutOf (layInOf ed h f) ≡ takeOutOf h
+    taken-laid : takeOutOf (layInOf ed q h f) ≡ takeOutOf h
     taken-laid =
-        taken-with (layInOf ed h f) laid-accepted
+        taken-with (layInOf ed q h f) laid-accepted
         ∙ ap (λ (x : List ℕ). withAc x (replicate 204 true)) (laid-with h f e)
-        ∙ withAc-again h (repairedBits f) (size h header-accepted) (length-repaired f) (replicate 204 true)
+        ∙ withAc-again h (repairedBits q f) (size h header-accepted) (length-repaired q f) (replicate 204 true)
         ∙ sym (taken-with h header-accepted)
 
-    back-again : Bytes h → acBits h ≡ replicate 204 true → takeOutOf (layInOf ed h f) ≡ h
+    back-again : Bytes h → acBits h ≡ replicate 204 true → takeOutOf (layInOf ed q h f) ≡ h
     back-again b o =
         taken-laid ∙ taken-with h header-accepted ∙ ap (withAc h) (sym o) ∙ withAc-own h b (headers.accepted h header-accepted)
 
-  laid-outside : (h f : List ℕ) → SameOutsideAc (layInOf ed h f) h
+  laid-outside : (h f : List ℕ) → SameOutsideAc (layInOf ed q h f) h
   unfolding layInOf
   laid-outside h f =
-      changed (λ (k : List ℕ). SameOutsideAc k h) (layInNumber ed h f) (withAc h (repairedBits f)) h
-      (λ e. withAc-outside h (repairedBits f) (size h (header-accepted h f e)) (length-repaired f)) (unchanged-outside h)
+      changed (λ (k : List ℕ). SameOutsideAc k h) (layInNumber ed q h f) (withAc h (repairedBits q f)) h
+      (λ e. withAc-outside h (repairedBits q f) (size h (header-accepted h f e)) (length-repaired q f)) (unchanged-outside h)
 
-  laid-front : (h f : List ℕ) → frontIn (layInOf ed h f) ≡ frontIn h
+  laid-front : (h f : List ℕ) → frontIn (layInOf ed q h f) ≡ frontIn h
   unfolding layInOf
   laid-front h f =
-      changed (λ (k : List ℕ). frontIn k ≡ frontIn h) (layInNumber ed h f) (withAc h (repairedBits f)) h
-      (λ e. withAc-frontIn h (repairedBits f) (size h (header-accepted h f e)) (length-repaired f)) refl
+      changed (λ (k : List ℕ). frontIn k ≡ frontIn h) (layInNumber ed q h f) (withAc h (repairedBits q f)) h
+      (λ e. withAc-frontIn h (repairedBits q f) (size h (header-accepted h f e)) (length-repaired q f)) refl
 
   -- the repaired bits and the filler are the repaired frame
-  repaired-frame : (f : List ℕ) (r : Record) → frameOf ed r ≡ cleanOf f → bytes 26 (repairedBits f ++ zeros 4) ≡ cleanOf f
+  repaired-frame : (f : List ℕ) (r : Record) → frameOf ed r ≡ cleanBy q f → bytes 26 (repairedBits q f ++ zeros 4) ≡ cleanBy q f
   repaired-frame f r e =
-      let b = bits (cleanOf f) in
-      let l : length (drop 204 b) ≡ 4 = length-drop 204 b ∙ omega (arith, length-bits (cleanOf f), length-clean f) in
+      let b = bits (cleanBy q f) in
+      let l : length (drop 204 b) ≡ 4 = length-drop 204 b ∙ omega (arith, length-bits (cleanBy q f), length-clean q f) in
       let filler : zeros 4 ≡ drop 204 b =
       sym (subst (λ (g : List ℕ). take 4 (drop 204 (bits g)) ≡ zeros 4) e (parts-frame ed r .filler)) ∙ take-all 4 (drop 204 b) (omega arith) in
       ap (λ (x : List Bool). bytes 26 (take 204 b ++ x)) filler
-      ∙ ap₂ bytes (sym (length-clean f)) (take-append-drop 204 b)
-      ∙ bytes-bits (cleanOf f) (Bytes-clean f)
+      ∙ ap₂ bytes (sym (length-clean q f)) (take-append-drop 204 b)
+      ∙ bytes-bits (cleanBy q f) (Bytes-clean q f)
 
-  frame-accepted : (t : Tuner) (f : List ℕ) (r : Record) (d : ℕ) → readOf ed t f ≡ Accepted r d → frameRefusal ed f ≡ 0
-  unfolding judgeOf
-  frame-accepted t f r d e = ap (λ (v : Verdict). v .number) (frame.demand2 ed .judged-accepted t f r d e)
+  frame-accepted : (t : Tuner) (f : List ℕ) (r : Record) (d : ℕ) → readBy ed q t f ≡ Accepted r d → refusalBy ed q f ≡ 0
+  unfolding judgeBy
+  frame-accepted t f r d e = ap (λ (v : Verdict). v .number) (frame.demand2 ed .judged-accepted q t f r d e)
 
-  laid-read : (t u : Tuner) (h f : List ℕ) (r : Record) (d : ℕ) → headerRefusal h ≡ 0 → readOf ed t f ≡ Accepted r d
-      → ComesBack r u 0 0 (readOf ed u (bytes 26 (acBits (layInOf ed h f) ++ zeros 4)))
+  laid-read : (t u : Tuner) (h f : List ℕ) (r : Record) (d : ℕ) → headerRefusal h ≡ 0 → readBy ed q t f ≡ Accepted r d
+      → ComesBack r u 0 0 (readOf ed u (bytes 26 (acBits (layInOf ed q h f) ++ zeros 4)))
   laid-read t u h f r d e a =
-      let n : layInNumber ed h f ≡ 0 = then-frame h f e ∙ frame-accepted t f r d a in
-      let laid : cleanOf f ≡ bytes 26 (acBits (layInOf ed h f) ++ zeros 4) =
+      let n : layInNumber ed q h f ≡ 0 = then-frame h f e ∙ frame-accepted t f r d a in
+      let laid : cleanBy q f ≡ bytes 26 (acBits (layInOf ed q h f) ++ zeros 4) =
       sym
       (ap (λ (x : List Bool). bytes 26 (x ++ zeros 4)) (laid-bits h f n)
-      ∙ repaired-frame f r (frame.demand2 ed .written-again t f r d a)) in
-      subst (λ (g : List ℕ). ComesBack r u 0 0 (readOf ed u g)) laid (frame.demand2 ed .mended-read t u f r d a)
+      ∙ repaired-frame f r (frame.demand2 ed .written-again q t f r d a)) in
+      subst (λ (g : List ℕ). ComesBack r u 0 0 (readOf ed u g)) laid (frame.demand2 ed .mended-read q t u f r d a)
 
-  laid-pattern : (t : Tuner) (h f : List ℕ) (r : Record) (d : ℕ) → headerRefusal h ≡ 0 → readOf ed t f ≡ Accepted r d
-      → take 16 (drop 1 (acBits (layInOf ed h f))) ≡ patternBits (r .pattern)
+  laid-pattern : (t : Tuner) (h f : List ℕ) (r : Record) (d : ℕ) → headerRefusal h ≡ 0 → readBy ed q t f ≡ Accepted r d
+      → take 16 (drop 1 (acBits (layInOf ed q h f))) ≡ patternBits (r .pattern)
   laid-pattern t h f r d e a =
-      let n : layInNumber ed h f ≡ 0 = then-frame h f e ∙ frame-accepted t f r d a in
+      let n : layInNumber ed q h f ≡ 0 = then-frame h f e ∙ frame-accepted t f r d a in
       ap (λ (x : List Bool). take 16 (drop 1 x)) (laid-bits h f n)
-      ∙ take-drop-take 16 1 204 (bits (cleanOf f)) (omega arith)
-      ∙ frame.demand2 ed .mended t f r d a .pattern
+      ∙ take-drop-take 16 1 204 (bits (cleanBy q f)) (omega arith)
+      ∙ frame.demand2 ed .mended q t f r d a .pattern
 
-  -- an undamaged frame is laid in as it stands
-  pub laid-own : (h : List ℕ) (r : Record) → headerRefusal h ≡ 0 → Legal ed r → layInOf ed h (frameOf ed r) ≡ withAc h (take 204 (bits (frameOf ed r)))
-  laid-own h r e l =
-      let f = frameOf ed r in
-      let b = frame.demand2 ed .comes-back None r l in
-      let own : cleanOf f ≡ f =
-      sym (frame.demand2 ed .written-again None f (b .back) 0 (b .accepted)) ∙ same-frame ed (b .back) r (sym (b .same)) in
-      laid-with h f (then-frame h f e ∙ frame-accepted None f (b .back) 0 (b .accepted))
-      ∙ ap (λ (g : List ℕ). withAc h (take 204 (bits g))) own
-
-  alike : (other : Edition) (h f : List ℕ) → NotSafety (identificationIn (repairOf f .word))
-      → (layInNumber ed h f ≡ layInNumber other h f) × (layInOf ed h f ≡ layInOf other h f)
-  unfolding layInNumber layInOf judgeOf
+  alike : (other : Edition) (h f : List ℕ) → NotSafety (identificationIn (repairBy q f .word))
+      → (layInNumber ed q h f ≡ layInNumber other q h f) × (layInOf ed q h f ≡ layInOf other q h f)
+  unfolding layInNumber layInOf judgeBy
   alike other h f n =
-      let same : frameRefusal ed f ≡ frameRefusal other f = ap (λ (v : Verdict). v .number) (editions .frame-alike ed other f n .judged) in
+      let same : refusalBy ed q f ≡ refusalBy other q f = ap (λ (v : Verdict). v .number) (editions .frame-alike ed other q f n .judged) in
       rw same (refl, refl)
 
-  pub laying : Laying ed
-  laying =
-      record {
-        laid-accepted = laid-accepted;
-        laid-bits = laid-bits;
-        laid-read = laid-read;
-        laid-pattern = laid-pattern;
-        laid-outside = laid-outside;
-        laid-front = laid-front;
-        laid-twice = λ h f g e k. laid-twice h f e g k;
-        taken-laid = taken-laid;
-        back-again = λ h f b o e. back-again h f e b o;
-        header-first = header-first;
-        then-frame = then-frame;
-        laid-unchanged = laid-unchanged;
-        laid-alike = alike;
-      }
+-- laying in twice is laying in the second, whether the frames come with marks or not
+laid-twice : (ed : Edition) (q p : Marking) (h f g : List ℕ) → layInNumber ed q h f ≡ 0 → refusalBy ed p g ≡ 0 → layInOf ed p (layInOf ed q h f) g ≡ layInOf ed p h g
+laid-twice ed q p h f g e k =
+    let a = header-accepted ed q h f e in
+    laid-with ed p (layInOf ed q h f) g (then-frame ed p (layInOf ed q h f) g (laid-accepted ed q h f e) ∙ k)
+    ∙ ap (λ (x : List ℕ). withAc x (repairedBits p g)) (laid-with ed q h f e)
+    ∙ withAc-again h (repairedBits q f) (size h a) (length-repaired q f) (repairedBits p g)
+    ∙ sym (laid-with ed p h g (then-frame ed p h g a ∙ k))
+
+-- an undamaged frame is laid in as it stands
+pub laid-own : (ed : Edition) (h : List ℕ) (r : Record) → headerRefusal h ≡ 0 → Legal ed r
+    → layInOf ed unmarked h (frameOf ed r) ≡ withAc h (take 204 (bits (frameOf ed r)))
+laid-own ed h r e l =
+    let f = frameOf ed r in
+    let b = frame.demand2 ed .comes-back None r l in
+    let own : cleanOf f ≡ f =
+    sym (frame.demand2 ed .written-again unmarked None f (b .back) 0 (b .accepted)) ∙ same-frame ed (b .back) r (sym (b .same)) in
+    laid-with ed unmarked h f (then-frame ed unmarked h f e ∙ frame-accepted ed unmarked None f (b .back) 0 (b .accepted))
+    ∙ ap (λ (g : List ℕ). withAc h (take 204 (bits g))) own
+
+pub laying : (ed : Edition) (q : Marking) → Laying ed q
+laying ed q =
+    record {
+      laid-accepted = laid-accepted ed q;
+      laid-bits = laid-bits ed q;
+      laid-read = laid-read ed q;
+      laid-pattern = laid-pattern ed q;
+      laid-outside = laid-outside ed q;
+      laid-front = laid-front ed q;
+      laid-twice = laid-twice ed q;
+      taken-laid = taken-laid ed q;
+      back-again = λ h f b o e. back-again ed q h f e b o;
+      header-first = header-first ed q;
+      then-frame = then-frame ed q;
+      laid-unchanged = laid-unchanged ed q;
+      laid-alike = alike ed q;
+    }

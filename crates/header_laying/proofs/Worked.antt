@@ -2,6 +2,7 @@
 use mathlib.Core.Path.{_≡_, ap, _∙_, refl}
 use lib.ListN.{take, drop}
 use Rattle.bits.specs.Bits.{bits, digit, odd, value, bitsOf, bytes}
+use Rattle.dsc.specs.Marks.{unmarked}
 use Rattle.frame.specs.Write.{frameOf, announced, messageBits, Legal, recordRefusal}
 use Rattle.frame.specs.Worked.{areaRecord}
 use Rattle.frame.specs.declared.Edition.the-variants.{First}
@@ -33,7 +34,7 @@ crc-with-frame : drop 184 (withAc (headerOf (sample 0x47000000 1 0)) (take 204 (
 unfolding add scale remainder digit odd value bitsOf bits bytes pack widths withFixed crc crc32 frontLayout extensionLayout pairs frontFields extensionFields sealed headerOf sample withAc poly member checkBits crc10 powers generatorLow parityOf classOf row layout gather bodyValues announced messageBits frameOf areaRecord
 crc-with-frame = refl
 
-laid : layInOf First (headerOf (sample 0x47000000 1 0)) (frameOf First (areaRecord 0)) ≡ withAc (headerOf (sample 0x47000000 1 0)) (take 204 (bits (frameOf First (areaRecord 0))))
+laid : layInOf First unmarked (headerOf (sample 0x47000000 1 0)) (frameOf First (areaRecord 0)) ≡ withAc (headerOf (sample 0x47000000 1 0)) (take 204 (bits (frameOf First (areaRecord 0))))
 laid = laid-own First (headerOf (sample 0x47000000 1 0)) (areaRecord 0) (header.worked .accepted) warning-legal
 
 pub worked : Worked

@@ -1,5 +1,5 @@
--- What laying in and taking out promise, in the words of demand 2 and of documents 01 and 02, a), e) and j). The records have one value each, `Laying` for every
--- edition, proved in proofs/Promises.antt. Assumes nothing.
+-- What laying in and taking out promise, in the words of demand 2 and of documents 01 and 02, a), e), j) and d). The records have one value each, `Laying` for every
+-- edition and for frames with marks and without, proved in proofs/Promises.antt. Assumes nothing.
 use mathlib.Core.Path.{_≡_}
 use mathlib.Core.Bool.{true}
 use mathlib.Core.Logic.{_≢_}
@@ -8,8 +8,8 @@ use Prim.Native.Nat.{ℕ}
 use lib.ListN.{length, take, drop, replicate}
 use Rattle.bits.specs.Bits.{bits, bytes, Bytes}
 use Rattle.gf2.specs.Polynomial.{zeros}
-use Rattle.dsc.specs.Repair.{repairOf}
-use Rattle.frame.specs.Read.{identificationIn, readOf, frameRefusal}
+use Rattle.dsc.specs.Marks.{Marking, repairBy}
+use Rattle.frame.specs.Read.{identificationIn, readBy, readOf, refusalBy}
 use Rattle.frame.specs.Promises.{NotSafety, ComesBack}
 use Rattle.frame.specs.declared.Edition.{Edition}
 use Rattle.sync_pattern.specs.Pattern.{patternBits}
@@ -27,34 +27,35 @@ pub record SameOutsideAc (h k : List ℕ) : Type 0 where
   -- the low half of byte 124, and bytes 125 to 183
   pub rest : take 476 (drop 996 (bits h)) ≡ take 476 (drop 996 (bits k))
 
-pub record Laying (ed : Edition) : Type 0 where
+-- of a frame that is marked as q says
+pub record Laying (ed : Edition) (q : Marking) : Type 0 where
   -- after laying in the header is accepted
-  pub laid-accepted : (h f : List ℕ) → layInNumber ed h f ≡ 0 → headerRefusal (layInOf ed h f) ≡ 0
+  pub laid-accepted : (h f : List ℕ) → layInNumber ed q h f ≡ 0 → headerRefusal (layInOf ed q h f) ≡ 0
   -- and its 204 bits are the frame's repaired ones
-  pub laid-bits : (h f : List ℕ) → layInNumber ed h f ≡ 0 → acBits (layInOf ed h f) ≡ repairedBits f
+  pub laid-bits : (h f : List ℕ) → layInNumber ed q h f ≡ 0 → acBits (layInOf ed q h f) ≡ repairedBits q f
   -- so that, with the filler, they are read as the frame's record, with whichever tuner is then told, the count 0 and no bit that differs
-  pub laid-read : (t u : Tuner) (h f : List ℕ) (r : Record) (d : ℕ) → headerRefusal h ≡ 0 → readOf ed t f ≡ Accepted r d
-      → ComesBack r u 0 0 (readOf ed u (bytes 26 (acBits (layInOf ed h f) ++ zeros 4)))
+  pub laid-read : (t u : Tuner) (h f : List ℕ) (r : Record) (d : ℕ) → headerRefusal h ≡ 0 → readBy ed q t f ≡ Accepted r d
+      → ComesBack r u 0 0 (readOf ed u (bytes 26 (acBits (layInOf ed q h f) ++ zeros 4)))
   -- and B1 to B16 are the clean pattern, whatever bits of them differed
-  pub laid-pattern : (t : Tuner) (h f : List ℕ) (r : Record) (d : ℕ) → headerRefusal h ≡ 0 → readOf ed t f ≡ Accepted r d
-      → take 16 (drop 1 (acBits (layInOf ed h f))) ≡ patternBits (r .pattern)
+  pub laid-pattern : (t : Tuner) (h f : List ℕ) (r : Record) (d : ℕ) → headerRefusal h ≡ 0 → readBy ed q t f ≡ Accepted r d
+      → take 16 (drop 1 (acBits (layInOf ed q h f))) ≡ patternBits (r .pattern)
   -- everything else stays, the change number too
-  pub laid-outside : (h f : List ℕ) → SameOutsideAc (layInOf ed h f) h
-  pub laid-front : (h f : List ℕ) → frontIn (layInOf ed h f) ≡ frontIn h
+  pub laid-outside : (h f : List ℕ) → SameOutsideAc (layInOf ed q h f) h
+  pub laid-front : (h f : List ℕ) → frontIn (layInOf ed q h f) ≡ frontIn h
   -- laying in twice is laying in the second
-  pub laid-twice : (h f g : List ℕ) → layInNumber ed h f ≡ 0 → frameRefusal ed g ≡ 0 → layInOf ed (layInOf ed h f) g ≡ layInOf ed h g
+  pub laid-twice : (p : Marking) (h f g : List ℕ) → layInNumber ed q h f ≡ 0 → refusalBy ed p g ≡ 0 → layInOf ed p (layInOf ed q h f) g ≡ layInOf ed p h g
   -- taking out after laying in is taking out alone
-  pub taken-laid : (h f : List ℕ) → layInNumber ed h f ≡ 0 → takeOutOf (layInOf ed h f) ≡ takeOutOf h
+  pub taken-laid : (h f : List ℕ) → layInNumber ed q h f ≡ 0 → takeOutOf (layInOf ed q h f) ≡ takeOutOf h
   -- so that a header that carried no frame comes back byte for byte
-  pub back-again : (h f : List ℕ) → Bytes h → acBits h ≡ replicate 204 true → layInNumber ed h f ≡ 0 → takeOutOf (layInOf ed h f) ≡ h
+  pub back-again : (h f : List ℕ) → Bytes h → acBits h ≡ replicate 204 true → layInNumber ed q h f ≡ 0 → takeOutOf (layInOf ed q h f) ≡ h
   -- the header is tested before the frame
-  pub header-first : (h f : List ℕ) → headerRefusal h ≢ 0 → layInNumber ed h f ≡ headerRefusal h
-  pub then-frame : (h f : List ℕ) → headerRefusal h ≡ 0 → layInNumber ed h f ≡ frameRefusal ed f
+  pub header-first : (h f : List ℕ) → headerRefusal h ≢ 0 → layInNumber ed q h f ≡ headerRefusal h
+  pub then-frame : (h f : List ℕ) → headerRefusal h ≡ 0 → layInNumber ed q h f ≡ refusalBy ed q f
   -- a refusal changes nothing
-  pub laid-unchanged : (h f : List ℕ) → layInNumber ed h f ≢ 0 → layInOf ed h f ≡ h
+  pub laid-unchanged : (h f : List ℕ) → layInNumber ed q h f ≢ 0 → layInOf ed q h f ≡ h
   -- which edition is named does not matter to a frame whose repaired identification is not 5 or 6
-  pub laid-alike : (other : Edition) (h f : List ℕ) → NotSafety (identificationIn (repairOf f .word))
-      → (layInNumber ed h f ≡ layInNumber other h f) × (layInOf ed h f ≡ layInOf other h f)
+  pub laid-alike : (other : Edition) (h f : List ℕ) → NotSafety (identificationIn (repairBy q f .word))
+      → (layInNumber ed q h f ≡ layInNumber other q h f) × (layInOf ed q h f ≡ layInOf other q h f)
 
 pub record TakingOut : Type 0 where
   -- taking out leaves 204 ones in an accepted header, and all else as it was

@@ -2,6 +2,7 @@
 use mathlib.Core.Path.{_≡_}
 use mathlib.Core.List.{[], _∷_}
 use lib.ListN.{drop}
+use Rattle.dsc.specs.Marks.{unmarked}
 use Rattle.frame.specs.Write.{frameOf}
 use Rattle.frame.specs.Worked.{areaRecord}
 use Rattle.frame.specs.declared.Edition.the-variants.{First}
@@ -11,4 +12,4 @@ use Rattle.header_laying.specs.Laying.{layInOf}
 
 pub record Worked : Type 0 where
   -- with the warning for all areas
-  pub crc-laid : drop 184 (layInOf First (headerOf (sample 0x47000000 1 0)) (frameOf First (areaRecord 0))) ≡ 0xB0 ∷ 0xAC ∷ 0x5A ∷ 0x53 ∷ []
+  pub crc-laid : drop 184 (layInOf First unmarked (headerOf (sample 0x47000000 1 0)) (frameOf First (areaRecord 0))) ≡ 0xB0 ∷ 0xAC ∷ 0x5A ∷ 0x53 ∷ []

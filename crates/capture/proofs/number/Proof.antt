@@ -3,7 +3,7 @@ use mathlib.Core.Path.{sym, ap, _∙_}
 use native.Mathlib.Omega.{arith}
 use denote.Ref.{now}
 use borrow.Author.Needs.{needs}
-use Rattle.frame.specs.Read.{frameRefusal, judgeOf}
+use Rattle.frame.specs.Read.{frameRefusal, judgeBy}
 use Rattle.frame.specs.declared.Verdict.{Verdict}
 use Rattle.capture.proofs.Choice.{number-within, number-past}
 use Rattle.capture.proofs.number.Statement.{statement}
@@ -16,7 +16,7 @@ judge-requires : tie.Need-judge-requires
 judge-requires c κs = search needs
 
 returns : tie.Need-returns
-unfolding judgeOf
+unfolding judgeBy
 returns c =
     let s = c .before .before .before .before .args in
     ap (λ (v : Verdict). v .number) (c .judge .ensures)
