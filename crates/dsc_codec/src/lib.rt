@@ -11,8 +11,8 @@ use dsc_errors::Pattern;
 use dsc_sums::MiddleSums;
 use dsc_words::Word;
 
-// What the engine finds: a code word within eight places, and in how many it differs, or that there is none.
-enum Found {
+// What the engine finds: a code word within eight places, and in how many it differs, or that there is none. `dsc_marked` has this and `find` too.
+pub enum Found {
     Near(Word, u8),
     Far,
 }
@@ -30,8 +30,8 @@ fn mend(received: Word, middle: MiddleSums, errors: Word, places: u8) -> Found
     Found::Near(mended, places)
 }
 
-// The code word within eight places of 187 received bits.
-fn find(received: Word) -> Found
+// The code word within eight places of 187 received bits. `dsc_marked` calls it too, with words that it has made, so that no bit past the 187 is set.
+pub fn find(received: Word) -> Found
     requires { ⌜ Fits received ⌝ }
     ensures { λ r. ⌜ Finds (held received) r ⌝ }
 {

@@ -1,11 +1,14 @@
-// A word of 187 bits in three machine words: out of a frame's bytes, into bytes, and its sum with another. Only the repair calls these functions; it
-// has tested the frame's length, and no bit past the 187 is ever set, so that both are required.
+// A word of 187 bits in three machine words: out of a frame's bytes, into bytes, its sum with another, its weight, and what stands in it beside marks.
+// Only the repair calls these functions; it has tested the frame's length, and no bit past the 187 is ever set, so that both are required.
 ghost use mathlib.Core.Path.{_≡_};
+ghost use mathlib.Core.Bool.{true, false};
 ghost use Prim.Native.Nat.{_+_, _*_, _%_, _^_, _≤_};
 ghost use lib.ListN.{length};
 ghost use lib.Seq.{sets};
 ghost use Rattle.bits.specs.Bits.{bitsOf, bytes};
 ghost use Rattle.gf2.specs.Polynomial.{add};
+ghost use Rattle.dsc.specs.Code as code;
+ghost use Rattle.dsc.specs.Marks.{filled};
 ghost use Rattle.dsc.specs.Repair.{protected, wordBytes};
 ghost use Rattle.dsc_words.specs.Words.{held, Fits};
 
@@ -79,4 +82,36 @@ pub fn sum(v: Word, e: Word) -> Word
         middle: v.middle ^ e.middle,
         high: v.high ^ e.high,
     }
+}
+
+// The word with 0 under every mark.
+pub fn clear_marked(w: Word, marks: Word) -> Word
+    requires { ⌜ Fits w × Fits marks ⌝ }
+    ensures { λ r. ⌜ Fits r × (held r ≡ filled false (held marks) (held w)) ⌝ }
+{
+    Word {
+        low: w.low ^ (w.low & marks.low),
+        middle: w.middle ^ (w.middle & marks.middle),
+        high: w.high ^ (w.high & marks.high),
+    }
+}
+
+// The word with 1 under every mark.
+pub fn set_marked(w: Word, marks: Word) -> Word
+    requires { ⌜ Fits w × Fits marks ⌝ }
+    ensures { λ r. ⌜ Fits r × (held r ≡ filled true (held marks) (held w)) ⌝ }
+{
+    Word {
+        low: w.low | marks.low,
+        middle: w.middle | marks.middle,
+        high: w.high | marks.high,
+    }
+}
+
+// How many bits of the word are 1.
+pub fn weight(w: Word) -> u32
+    requires { ⌜ Fits w ⌝ }
+    ensures { λ r. ⌜ (r ≡ code.weight (held w)) × (r ≤ 192) ⌝ }
+{
+    lanes::ones(w.low) + lanes::ones(w.middle) + lanes::ones(w.high)
 }
