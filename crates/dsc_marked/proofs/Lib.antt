@@ -1,0 +1,2 @@
+pub mod BothFillings
+pub mod Cases
