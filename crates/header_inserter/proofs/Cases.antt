@@ -1,56 +1,68 @@
 -- The cases of laying in and taking out, as the functions come to them. Assumes nothing.
-use mathlib.Core.Path.{_≡_, _∙_, sym, ap}
-use mathlib.Core.Bool.{Bool, cond}
+use mathlib.Core.Path.{_≡_, refl, _∙_, sym, ap}
+use mathlib.Core.Bool.{Bool, true, false, cond}
 use mathlib.Core.Logic.{_≢_}
 use mathlib.Core.List.{List}
 use Prim.Native.Nat.{ℕ}
-use lib.ListN.{length, replicate}
-use borrow.Author.Tests.{eq-eqb}
+use lib.Dec.{eqb}
+use lib.ListN.{length, take}
+use borrow.Author.Tests.{eq-eqb, ne-eqb}
 use Rattle.bits.specs.Bits.{bits}
 use Rattle.bits.specs.Layout.{pack, unpack}
-use Rattle.frame.specs.Read.{frameRefusal, cleanOf, cleanedOf}
+use Rattle.dsc.specs.Marks.{Marking}
+use Rattle.frame.specs.Read.{refusalBy, cleanedBy}
 use Rattle.frame.specs.declared.Edition.{Edition}
 use Rattle.frame.specs.declared.Cleaned.{Cleaned}
 use Rattle.header.specs.Header.{headerRefusal}
-use Rattle.header_laying.specs.Laying.{withAc, repairedBits, layInNumber, layInOf, takeOutOf}
+use Rattle.header_laying.specs.Laying.{withAc, layInNumber, layInOf, takeOutOf}
 use Rattle.header_tables.specs.AcTables.{acWidths, acOnes}
+use Rattle.header_inserter.specs.AcBits.{withCleaned}
 use Rattle.header_inserter.proofs.AcValues.{all-ones, frame-first}
-use Rattle.header_laying.proofs.Promises.{laying, taking-out, laid-with, taken-with, length-clean, size}
+use Rattle.header_laying.proofs.Promises.{laying, taking-out, taken-with, size}
 
 -- an accepted header has 188 bytes
 pub accepted-size : (h : List ℕ) (n : ℕ) → n ≡ headerRefusal h → n ≡ 0 → length h ≡ 188
 accepted-size h n e z = size h (sym e ∙ z)
 
--- ---- laying in: the header h, the frame f
+-- ---- a cleaned frame laid into the header h
 
-cleaned-number : (ed : Edition) (f : List ℕ) (c : Cleaned) → c ≡ cleanedOf ed f → c .number ≡ frameRefusal ed f
-unfolding cleanedOf
-cleaned-number ed f c e = ap (λ (x : Cleaned). x .number) e
+module _ (h : List ℕ) (c : Cleaned) where
+  pub cleaned-refused : c .number ≢ 0 → (c .number ≡ c .number) × (h ≡ withCleaned h c)
+  unfolding withCleaned
+  cleaned-refused z = (refl, rw (ne-eqb (c .number) 0 z))
 
-cleaned-frame : (ed : Edition) (f : List ℕ) (c : Cleaned) → c ≡ cleanedOf ed f → c .number ≡ 0 → c .frame ≡ cleanOf f
-unfolding cleanedOf
-cleaned-frame ed f c e z =
-    ap (λ (x : Cleaned). x .frame) e ∙ ap (λ (t : Bool). cond t (cleanOf f) (replicate 26 0)) (eq-eqb (frameRefusal ed f) 0 (sym (cleaned-number ed f c e) ∙ z))
+  pub cleaned-laid : (v w : List ℕ) → length (c .frame) ≡ 26 → c .number ≡ 0 → v ≡ unpack acWidths (bits (c .frame)) → w ≡ withAc h (pack acWidths v)
+      → (0 ≡ c .number) × (w ≡ withCleaned h c)
+  unfolding withCleaned
+  cleaned-laid v w l z p q =
+      (sym z, q ∙ ap (withAc h) (ap (pack acWidths) p ∙ frame-first (c .frame) l) ∙ sym (ap (λ (t : Bool). cond t (withAc h (take 204 (bits (c .frame)))) h) (eq-eqb (c .number) 0 z)))
 
-module _ (ed : Edition) (h f : List ℕ) where
-  pub header-refused : (n : ℕ) → n ≡ headerRefusal h → n ≢ 0 → (n ≡ layInNumber ed h f) × (h ≡ layInOf ed h f)
+-- ---- laying in: the header h, the frame f, marked as q says
+
+module _ (ed : Edition) (q : Marking) (h f : List ℕ) where
+  pub header-refused : (n : ℕ) → n ≡ headerRefusal h → n ≢ 0 → (n ≡ layInNumber ed q h f) × (h ≡ layInOf ed q h f)
   header-refused n e z =
-      let m = e ∙ sym (laying ed .header-first h f (λ p. z (e ∙ p))) in
-      (m, sym (laying ed .laid-unchanged h f (λ p. z (m ∙ p))))
+      let m = e ∙ sym (laying ed q .header-first h f (λ p. z (e ∙ p))) in
+      (m, sym (laying ed q .laid-unchanged h f (λ p. z (m ∙ p))))
 
-  pub frame-refused : (m : ℕ) (c : Cleaned) → m ≡ headerRefusal h → m ≡ 0 → c ≡ cleanedOf ed f → c .number ≢ 0
-      → (c .number ≡ layInNumber ed h f) × (h ≡ layInOf ed h f)
-  frame-refused m c a b e z =
-      let n = cleaned-number ed f c e ∙ sym (laying ed .then-frame h f (sym a ∙ b)) in
-      (n, sym (laying ed .laid-unchanged h f (λ p. z (n ∙ p))))
+  -- past the header's test both are the answer by the frame's refusal
+  laid-by : headerRefusal h ≡ 0 → withCleaned h (cleanedBy ed q f) ≡ layInOf ed q h f
+  unfolding withCleaned cleanedBy layInOf
+  laid-by a = go (eqb (refusalBy ed q f) 0) refl
+    where
+      n : layInNumber ed q h f ≡ refusalBy ed q f
+      n = laying ed q .then-frame h f a
 
-  pub laid : (m : ℕ) (c : Cleaned) (v w : List ℕ) → m ≡ headerRefusal h → m ≡ 0 → c ≡ cleanedOf ed f → c .number ≡ 0
-      → v ≡ unpack acWidths (bits (c .frame)) → w ≡ withAc h (pack acWidths v) → (0 ≡ layInNumber ed h f) × (w ≡ layInOf ed h f)
-  laid m c v w a b e z p q =
-      let n = laying ed .then-frame h f (sym a ∙ b) ∙ sym (cleaned-number ed f c e) ∙ z in
-      let bits-laid : pack acWidths v ≡ repairedBits f =
-      ap (pack acWidths) (p ∙ ap (λ (y : List ℕ). unpack acWidths (bits y)) (cleaned-frame ed f c e z)) ∙ frame-first (cleanOf f) (length-clean f) in
-      (sym n, q ∙ ap (withAc h) bits-laid ∙ sym (laid-with ed h f n))
+      go : (t : Bool) → eqb (refusalBy ed q f) 0 ≡ t → withCleaned h (cleanedBy ed q f) ≡ layInOf ed q h f
+      go true e = rw (n, e) refl
+      go false e = rw (n, e) refl
+
+  -- c is the cleaned frame, m what laying it into the header answers, w what stands in the header then
+  pub laid : (n : ℕ) (c : Cleaned) (m : ℕ) (w : List ℕ) → n ≡ headerRefusal h → n ≡ 0 → c ≡ cleanedBy ed q f → (m ≡ c .number) × (w ≡ withCleaned h c)
+      → (m ≡ layInNumber ed q h f) × (w ≡ layInOf ed q h f)
+  unfolding cleanedBy
+  laid n c m w a b e k =
+      (k .0 ∙ ap (λ (x : Cleaned). x .number) e ∙ sym (laying ed q .then-frame h f (sym a ∙ b)), k .1 ∙ ap (withCleaned h) e ∙ laid-by (sym a ∙ b))
 
 -- ---- taking out
 

@@ -1,12 +1,14 @@
-// Laying a frame into a header, by the edition named, and taking it out. The rules are those of `header_laying`.
+// Laying a frame into a header, by the edition named, with doubtful marks or without, and taking it out. The rules are those of `header_laying`.
 ghost use mathlib.Core.Path.{_≡_};
 ghost use lib.ListN.{length};
 ghost use Rattle.bits.specs.Bits.{bits};
 ghost use Rattle.bits.specs.Layout.{pack, unpack};
+ghost use Rattle.dsc.specs.Marks.{unmarked, marked};
 ghost use Rattle.header.specs.Header.{headerRefusal};
 ghost use Rattle.header_laying.specs.Laying.{withAc, layInNumber, layInOf, takeOutOf};
 ghost use Rattle.header_tables.specs.AcTables.{acWidths};
-ghost use Rattle.header_inserter.specs.AcBits.{withFirst};
+ghost use Rattle.header_inserter.specs.AcBits.{withFirst, withCleaned};
+use frame::Cleaned;
 use frame::Edition;
 
 // The first 204 bits of a frame.
@@ -37,16 +39,12 @@ fn put_into(header: &mut [u8], values: &[u64; 26])
     header_writer::seal(header);
 }
 
-// The repaired 204 bits of a frame into a header. The header is tested fully, then the frame; a refusal changes nothing.
-pub fn lay_in(edition: Edition, header: &mut [u8], frame: &[u8]) -> u8
-    ensures number { λ r. ⌜ r ≡ layInNumber edition (now (header .entry)) (now (frame .entry)) ⌝ }
-    ensures header { λ _. ⌜ now (header .exit) ≡ layInOf edition (now (header .entry)) (now (frame .entry)) ⌝ }
+// The 204 bits of a cleaned frame into a header that was tested; where the frame was refused the header stays as it was.
+fn lay_cleaned(header: &mut [u8], cleaned: Cleaned) -> u8
+    requires { ⌜ length (now header) ≡ 188 ⌝ }
+    ensures number { λ r. ⌜ r ≡ cleaned .number ⌝ }
+    ensures header { λ _. ⌜ now (header .exit) ≡ withCleaned (now (header .entry)) cleaned ⌝ }
 {
-    let number = header_reader::refusal(header);
-    if number != 0 {
-        return number;
-    }
-    let cleaned = frame_reader::clean(edition, frame);
     if cleaned.number != 0 {
         return cleaned.number;
     }
@@ -54,6 +52,30 @@ pub fn lay_in(edition: Edition, header: &mut [u8], frame: &[u8]) -> u8
     let values = ac_values(&repaired);
     put_into(header, &values);
     0
+}
+
+// The repaired 204 bits of a frame into a header. The header is tested fully, then the frame; a refusal changes nothing.
+pub fn lay_in(edition: Edition, header: &mut [u8], frame: &[u8]) -> u8
+    ensures number { λ r. ⌜ r ≡ layInNumber edition unmarked (now (header .entry)) (now (frame .entry)) ⌝ }
+    ensures header { λ _. ⌜ now (header .exit) ≡ layInOf edition unmarked (now (header .entry)) (now (frame .entry)) ⌝ }
+{
+    let number = header_reader::refusal(header);
+    if number != 0 {
+        return number;
+    }
+    lay_cleaned(header, frame_reader::clean(edition, frame))
+}
+
+// The same of a frame that comes with doubtful marks.
+pub fn lay_in_marked(edition: Edition, header: &mut [u8], frame: &[u8], marks: &[u8]) -> u8
+    ensures number { λ r. ⌜ r ≡ layInNumber edition (marked (now (marks .entry))) (now (header .entry)) (now (frame .entry)) ⌝ }
+    ensures header { λ _. ⌜ now (header .exit) ≡ layInOf edition (marked (now (marks .entry))) (now (header .entry)) (now (frame .entry)) ⌝ }
+{
+    let number = header_reader::refusal(header);
+    if number != 0 {
+        return number;
+    }
+    lay_cleaned(header, frame_marked_reader::clean_marked(edition, frame, marks))
 }
 
 // 204 ones into a header. The header alone is tested; a refusal changes nothing.
