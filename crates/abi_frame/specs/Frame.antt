@@ -6,7 +6,8 @@ use lib.Dec.{eqb}
 use lib.ListN.{length}
 use Rattle.bits.specs.Bits.{digit}
 use Rattle.abi_record.specs.Values.{valueCount, valuesOf, recordAt}
-use Rattle.frame.specs.Read.{readOf, readingNumber, readingDiffering}
+use Rattle.dsc.specs.Marks.{Marking}
+use Rattle.frame.specs.Read.{readBy, readingNumber, readingDiffering}
 use Rattle.frame.specs.Write.{writeNumber, writeOf}
 use Rattle.frame.specs.Area.{warnedIn}
 use Rattle.frame.specs.declared.Edition.{Edition}
@@ -24,12 +25,12 @@ abbrev pub readingValues : Reading → List ℕ → List ℕ
 readingValues (Accepted r d) s = valuesOf r
 readingValues (Refused n) s = s
 
--- a record's buffer of another length than it has values is 1, else the reader answers, told the tuner t
-unfoldable pub frameReadStatus : Edition → Tuner → (f s : List ℕ) → ℕ
-frameReadStatus ed t f s = cond (eqb (length s) valueCount) (readingStatus (readOf ed t f)) (statusOf 1 0)
+-- a record's buffer of another length than it has values is 1, else the reader answers to the frame, marked as q says, told the tuner t
+unfoldable pub frameReadStatus : Edition → Marking → Tuner → (f s : List ℕ) → ℕ
+frameReadStatus ed q t f s = cond (eqb (length s) valueCount) (readingStatus (readBy ed q t f)) (statusOf 1 0)
 
-unfoldable pub frameReadRecord : Edition → Tuner → (f s : List ℕ) → List ℕ
-frameReadRecord ed t f s = cond (eqb (length s) valueCount) (readingValues (readOf ed t f) s) s
+unfoldable pub frameReadRecord : Edition → Marking → Tuner → (f s : List ℕ) → List ℕ
+frameReadRecord ed q t f s = cond (eqb (length s) valueCount) (readingValues (readBy ed q t f) s) s
 
 -- a record of another length than it has values is 1, else the writer answers
 unfoldable pub frameWriteStatus : Edition → (v s : List ℕ) → ℕ

@@ -9,11 +9,13 @@ use lib.Dec.{eqb}
 use lib.ListN.{length, take, drop, drop-of-length-le}
 use lib.Seq.{take-length}
 use borrow.Author.Tests.{eq-eqb, ne-eqb}
-use Rattle.dsc.specs.Repair.{repairOf, numberOf, outcomeNumber, outcomePlaces, leftIn}
+use Rattle.dsc.specs.Marks.{Marking, repairBy}
+use Rattle.dsc.specs.Repair.{numberOf, outcomeNumber, outcomePlaces, leftIn}
 use Rattle.dsc.specs.declared.Answer.{Answer}
 use Rattle.dsc.specs.declared.Outcome.{Outcome}
 use Rattle.dsc.specs.declared.Outcome.the-variants as outcome
-use Rattle.dsc.proofs.Answers.{length-wordBytes, answered}
+use Rattle.dsc.proofs.Answers.{length-wordBytes}
+use Rattle.dsc.proofs.MarkedAnswers.{each-answer}
 use Rattle.abi.specs.Status.{statusOf}
 use Rattle.abi_repair.specs.Repair.{repairStatus, repairWord}
 
@@ -32,22 +34,22 @@ pub left-repaired : (a : Answer) (w : List ℕ) {n : ℕ} {g : List ℕ} → len
     → g ≡ take (length (a .word)) (a .word) ++ drop (length (a .word)) w → g ≡ leftIn a w
 left-repaired a w h e k = rw e (k ∙ copied (a .word) w h)
 
--- ---- the answer to the frame f
+-- ---- the answer to the frame f, marked as q says
 
-pub wrong-buffer : (f w : List ℕ) → length w ≢ 26 → (statusOf 1 0 ≡ repairStatus f w) × (w ≡ repairWord f w)
+pub wrong-buffer : (q : Marking) (f w : List ℕ) → length w ≢ 26 → (statusOf 1 0 ≡ repairStatus q f w) × (w ≡ repairWord q f w)
 unfolding repairStatus repairWord
-wrong-buffer f w h = rw (ne-eqb (length w) 26 h) (refl, refl)
+wrong-buffer q f w h = rw (ne-eqb (length w) 26 h) (refl, refl)
 
-module _ (f w : List ℕ) (h : length w ≡ 26) where
-  pub word-length : {a : Answer} → a ≡ repairOf f → length (a .word) ≡ length w
-  word-length e = rw (e, h) (answered f (λ r. length (r .word) ≡ 26) (λ c n. length-wordBytes c) refl refl)
+module _ (q : Marking) (f w : List ℕ) (h : length w ≡ 26) where
+  pub word-length : {a : Answer} → a ≡ repairBy q f → length (a .word) ≡ length w
+  word-length e = rw (e, h) (each-answer q f (λ r. length (r .word) ≡ 26) (λ c n. length-wordBytes c) refl refl)
 
   -- no refusal has the number 0
-  left-word : leftIn (repairOf f) w ≡ cond (eqb (numberOf (repairOf f)) 0) (repairOf f .word) w
-  left-word = answered f (λ r. leftIn r w ≡ cond (eqb (numberOf r) 0) (r .word) w) (λ c n. refl) refl refl
+  left-word : leftIn (repairBy q f) w ≡ cond (eqb (numberOf (repairBy q f)) 0) (repairBy q f .word) w
+  left-word = each-answer q f (λ r. leftIn r w ≡ cond (eqb (numberOf r) 0) (r .word) w) (λ c n. refl) refl refl
 
   -- the outcome told and the buffer left, whichever engine gave them
-  pub told : {o : Outcome} {s : ℕ} {g : List ℕ} → o ≡ repairOf f .outcome → s ≡ statusOf (outcomeNumber o) (outcomePlaces o) → g ≡ leftIn (repairOf f) w
-      → (s ≡ repairStatus f w) × (g ≡ repairWord f w)
+  pub told : {o : Outcome} {s : ℕ} {g : List ℕ} → o ≡ repairBy q f .outcome → s ≡ statusOf (outcomeNumber o) (outcomePlaces o) → g ≡ leftIn (repairBy q f) w
+      → (s ≡ repairStatus q f w) × (g ≡ repairWord q f w)
   unfolding repairStatus repairWord
   told e k l = rw (eq-eqb (length w) 26 h) (status-at (sym e) k, l ∙ left-word)

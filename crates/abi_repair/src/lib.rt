@@ -1,8 +1,10 @@
-// The repair asked for alone, over plain numbers and slices, as a C program can call it: by the shipped engine, and by the second one.
+// The repair asked for alone, over plain numbers and slices, as a C program can call it: by the shipped engine, by the second one,
+// and with doubtful marks.
 use dsc::Answer;
 use dsc::Outcome;
 ghost use mathlib.Core.Path.{_≡_};
 ghost use lib.ListN.{length};
+ghost use Rattle.dsc.specs.Marks.{unmarked, marked};
 ghost use Rattle.dsc.specs.Repair.{outcomeNumber, outcomePlaces, leftIn};
 ghost use Rattle.abi.specs.Status.{statusOf};
 ghost use Rattle.abi_repair.specs.Repair.{repairStatus, repairWord};
@@ -37,8 +39,8 @@ fn put_answer(answer: Answer, word: &mut [u8])
 
 // The repaired word, B17 to B203 at their places and 0 elsewhere, into 26 bytes.
 pub fn repair(frame: &[u8], word: &mut [u8]) -> u32
-    ensures { λ r. ⌜ r ≡ repairStatus (now (frame .entry)) (now (word .entry)) ⌝ }
-    ensures { λ _. ⌜ now (word .exit) ≡ repairWord (now (frame .entry)) (now (word .entry)) ⌝ }
+    ensures { λ r. ⌜ r ≡ repairStatus unmarked (now (frame .entry)) (now (word .entry)) ⌝ }
+    ensures { λ _. ⌜ now (word .exit) ≡ repairWord unmarked (now (frame .entry)) (now (word .entry)) ⌝ }
 {
     if word.len() != WORD_BYTES {
         return abi::status(1, 0);
@@ -49,8 +51,8 @@ pub fn repair(frame: &[u8], word: &mut [u8]) -> u32
 
 // The same by the second engine, the register: slower, for comparison.
 pub fn repair_register(frame: &[u8], word: &mut [u8]) -> u32
-    ensures { λ r. ⌜ r ≡ repairStatus (now (frame .entry)) (now (word .entry)) ⌝ }
-    ensures { λ _. ⌜ now (word .exit) ≡ repairWord (now (frame .entry)) (now (word .entry)) ⌝ }
+    ensures { λ r. ⌜ r ≡ repairStatus unmarked (now (frame .entry)) (now (word .entry)) ⌝ }
+    ensures { λ _. ⌜ now (word .exit) ≡ repairWord unmarked (now (frame .entry)) (now (word .entry)) ⌝ }
 {
     if word.len() != WORD_BYTES {
         return abi::status(1, 0);
@@ -58,5 +60,17 @@ pub fn repair_register(frame: &[u8], word: &mut [u8]) -> u32
     let answer = dsc_register::repair(frame);
     let outcome = answer.outcome;
     put_answer(answer, word);
+    status_of(outcome)
+}
+
+// The repair with marks: the number of unmarked places in which the word differs stands above the number.
+pub fn repair_marked(frame: &[u8], marks: &[u8], word: &mut [u8]) -> u32
+    ensures { λ r. ⌜ r ≡ repairStatus (marked (now (marks .entry))) (now (frame .entry)) (now (word .entry)) ⌝ }
+    ensures { λ _. ⌜ now (word .exit) ≡ repairWord (marked (now (marks .entry))) (now (frame .entry)) (now (word .entry)) ⌝ }
+{
+    if word.len() != WORD_BYTES {
+        return abi::status(1, 0);
+    }
+    let outcome = dsc_marked::repair_marked_into(frame, marks, word);
     status_of(outcome)
 }

@@ -138,17 +138,18 @@ pub short-by : (q : Marking) (f : List ℕ) → whole q f ≡ false → repairBy
 short-by unmarked f e = repair-short f (eqb-false (length f) 26 e)
 short-by (marked m) f e = marked-short f m e
 
--- what is repaired has 26 bytes
-pub length-repaired : (q : Marking) (f : List ℕ) → length (repairBy q f .word) ≡ 26
-length-repaired q f = go (whole q f) refl
+-- what holds of each of a repair's three answers holds of its answer to f
+pub each-answer : (q : Marking) (f : List ℕ) (P : Answer → Type 0) → ((c : List Bool) (n : ℕ) → P (repairedTo c n)) → P (refusedWith 4) → P (refusedWith 1)
+    → P (repairBy q f)
+each-answer q f P fixed refused short = go (whole q f) refl
   where
-    go : (t : Bool) → whole q f ≡ t → length (repairBy q f .word) ≡ 26
-    go false e = ap (λ (a : Answer). length (a .word)) (short-by q f e)
+    by : AnsweredBy q f → P (repairBy q f)
+    by (found c k d a) = subst P (sym a) (fixed c (hitsBy q (add (protected f) c)))
+    by (far n a) = subst P (sym a) refused
+
+    go : (t : Bool) → whole q f ≡ t → P (repairBy q f)
+    go false e = subst P (sym (short-by q f e)) short
     go true e = by (answered-by q f e)
-      where
-        by : AnsweredBy q f → length (repairBy q f .word) ≡ 26
-        by (found c k d a) = ap (λ (x : Answer). length (x .word)) a ∙ length-wordBytes c
-        by (far n a) = ap (λ (x : Answer). length (x .word)) a
 
 -- a word hit in the places of e is as far from itself as e has places that count
 pub hits-sent : (q : Marking) (f : List ℕ) (c e : List Bool) → CodeWord c → length e ≡ 187 → protected f ≡ add e c

@@ -4,6 +4,7 @@ use mathlib.Core.Path.{_≡_, _∙_, ap}
 use Prim.Native.Nat.{ℕ}
 use denote.Ref.{now}
 use borrow.Author.Needs.{needs}
+use Rattle.dsc.specs.Marks.{unmarked}
 use Rattle.frame.specs.declared.Edition.{Edition}
 use Rattle.header_laying.specs.Laying.{layInOf}
 use Rattle.abi.specs.Status.{statusOf}
@@ -31,8 +32,8 @@ returns c =
     let h = now (s .header) in
     let f = now (s .frame) in
     let told : c .status .result ≡ statusOf (laid .result) 0 = c .status .ensures in (
-      told ∙ ap (λ (n : ℕ). statusOf n 0) (laid .ensures .0) ∙ ap (λ (e : Edition). layInStatus e h f) (named .edition-of .ensures),
-      laid .ensures .1 ∙ ap (λ (e : Edition). layInOf e h f) (named .edition-of .ensures),
+      told ∙ ap (λ (n : ℕ). statusOf n 0) (laid .ensures .0) ∙ ap (λ (e : Edition). layInStatus e unmarked h f) (named .edition-of .ensures),
+      laid .ensures .1 ∙ ap (λ (e : Edition). layInOf e unmarked h f) (named .edition-of .ensures),
     )
 
 pub lay-in-spec : {M : Type 1} → statement M

@@ -2,6 +2,7 @@
 use mathlib.Core.Path.{ap, _∙_}
 use borrow.Author.Needs.{needs}
 use Rattle.dsc.specs.Repair.{leftIn}
+use Rattle.dsc.specs.Marks.{unmarked}
 use Rattle.abi_repair.proofs.RepairCases.{word-length, wrong-buffer, told}
 use Rattle.abi_repair.proofs.repair_register.Statement.{statement}
 use Rattle.abi_repair.proofs.repair_register.Tie as tie
@@ -12,7 +13,7 @@ status-requires c κs = search needs
 returns : tie.Need-returns
 returns c =
     let s = c .before .before .before .before .args in
-    let r = wrong-buffer (s .frame .now) (s .word .now) (c .before .if1 .taken) in
+    let r = wrong-buffer unmarked (s .frame .now) (s .word .now) (c .before .if1 .taken) in
     (c .status .ensures ∙ r .0, r .1)
 
 repair-requires : tie.Need-repair-requires
@@ -22,7 +23,7 @@ put-answer-requires : tie.Need-put-answer-requires
 put-answer-requires c κs =
     let a = c .before in
     let s = a .before .before .before .before .args in
-    word-length (s .frame .now) (s .word .now) (a .before .if1 .left) (a .repair .ensures .0 .1)
+    word-length unmarked (s .frame .now) (s .word .now) (a .before .if1 .left) (a .repair .ensures .0 .1)
 
 status-of-requires : tie.Need-status-of-requires
 status-of-requires c κs = search needs
@@ -36,7 +37,7 @@ returns-2 c =
     let a = p .before .before in
     let s = a .before .before .before .before .args in
     let e = a .repair .ensures .0 .1 in
-    told (s .frame .now) (s .word .now) (a .before .if1 .left) (ap (λ r. r .outcome) e) (c .status-of .ensures)
+    told unmarked (s .frame .now) (s .word .now) (a .before .if1 .left) (ap (λ r. r .outcome) e) (c .status-of .ensures)
     (p .put-answer .ensures ∙ ap (λ r. leftIn r (s .word .now)) e)
 
 pub repair-register-spec : {M : Type 1} → statement M
