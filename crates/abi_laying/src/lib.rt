@@ -22,7 +22,10 @@ pub fn lay_in_marked(edition: u32, header: &mut [u8], frame: &[u8], marks: &[u8]
     ensures header { λ _. ⌜ now (header .exit) ≡ layInOf (editionOf edition) (marked (now (marks .entry))) (now (header .entry)) (now (frame .entry)) ⌝ }
 {
     let named = abi_edition::edition_of(edition);
-    abi::status(header_inserter::lay_in_marked(named, header, frame, marks), 0)
+    abi::status(
+        header_inserter::lay_in_marked(named, header, frame, marks),
+        0,
+    )
 }
 
 // Takes a frame out of a header.

@@ -13,7 +13,13 @@ use frame::Reading;
 use frame::Tuner;
 
 // Reads a frame with its marks, told the tuner; the record's values where it is accepted.
-pub fn frame_read_marked(edition: u32, tuner: u32, frame: &[u8], marks: &[u8], values: &mut [u64]) -> u32
+pub fn frame_read_marked(
+    edition: u32,
+    tuner: u32,
+    frame: &[u8],
+    marks: &[u8],
+    values: &mut [u64],
+) -> u32
     ensures status { λ r. ⌜ r ≡ frameReadStatus (editionOf edition) (marked (now (marks .entry))) (tunerOf tuner) (now (frame .entry)) (now (values .entry)) ⌝ }
     ensures values { λ _. ⌜ now (values .exit) ≡ frameReadRecord (editionOf edition) (marked (now (marks .entry))) (tunerOf tuner) (now (frame .entry)) (now (values .entry)) ⌝ }
 {
@@ -21,7 +27,12 @@ pub fn frame_read_marked(edition: u32, tuner: u32, frame: &[u8], marks: &[u8], v
         return abi::status(1, 0);
     }
     let told = abi_tuner::tuner_of(tuner as u64);
-    let reading = frame_marked_reader::read_marked(abi_edition::edition_of(edition), told, frame, marks);
+    let reading = frame_marked_reader::read_marked(
+        abi_edition::edition_of(edition),
+        told,
+        frame,
+        marks,
+    );
     abi_frame::put_reading(reading, values)
 }
 

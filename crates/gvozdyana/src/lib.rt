@@ -6,10 +6,12 @@
 // field buffer whose length is wrong is refusal 1, before anything else is looked at, and a refusal leaves every lent buffer as it was. The definitions
 // stand in the specs/ of the crates that are called.
 ghost use mathlib.Core.Path.{_≡_};
+ghost use Rattle.dsc.specs.Marks.{unmarked, marked};
 ghost use Rattle.abi_edition.specs.Edition.{editionOf};
 ghost use Rattle.abi_tuner.specs.Tuner.{tunerOf};
 ghost use Rattle.abi_repair.specs.Repair.{repairStatus, repairWord};
 ghost use Rattle.abi_frame.specs.Frame.{frameReadStatus, frameReadRecord, frameWriteStatus, frameWriteBytes, warnedStatus};
+ghost use Rattle.abi_marked_frame.specs.Judged.{judgeMarkedStatus};
 ghost use Rattle.abi_place.specs.Place.{reportStatus, reportPlace, deskStatus, deskFields};
 ghost use Rattle.abi_receiver.specs.Receiver.{followStatus, captureSource, captureNumbers};
 ghost use Rattle.abi_header.specs.Header.{headerReadStatus, headerReadValues, headerWriteStatus, headerWriteBytes};
@@ -21,8 +23,8 @@ ghost use Rattle.crc.specs.Crc.{crc32Of};
 // The repair asked for alone.
 #[no_mangle]
 pub extern "C" fn gvz_repair(frame: &[u8], word: &mut [u8]) -> u32
-    ensures { λ r. ⌜ r ≡ repairStatus (now (frame .entry)) (now (word .entry)) ⌝ }
-    ensures { λ _. ⌜ now (word .exit) ≡ repairWord (now (frame .entry)) (now (word .entry)) ⌝ }
+    ensures { λ r. ⌜ r ≡ repairStatus unmarked (now (frame .entry)) (now (word .entry)) ⌝ }
+    ensures { λ _. ⌜ now (word .exit) ≡ repairWord unmarked (now (frame .entry)) (now (word .entry)) ⌝ }
 {
     abi_repair::repair(frame, word)
 }
@@ -30,18 +32,49 @@ pub extern "C" fn gvz_repair(frame: &[u8], word: &mut [u8]) -> u32
 // The same answers by the second engine.
 #[no_mangle]
 pub extern "C" fn gvz_repair_register(frame: &[u8], word: &mut [u8]) -> u32
-    ensures { λ r. ⌜ r ≡ repairStatus (now (frame .entry)) (now (word .entry)) ⌝ }
-    ensures { λ _. ⌜ now (word .exit) ≡ repairWord (now (frame .entry)) (now (word .entry)) ⌝ }
+    ensures { λ r. ⌜ r ≡ repairStatus unmarked (now (frame .entry)) (now (word .entry)) ⌝ }
+    ensures { λ _. ⌜ now (word .exit) ≡ repairWord unmarked (now (frame .entry)) (now (word .entry)) ⌝ }
 {
     abi_repair::repair_register(frame, word)
 }
 
+// The repair with doubtful marks: the unmarked places in which the word differs stand above the number.
+#[no_mangle]
+pub extern "C" fn gvz_repair_marked(frame: &[u8], marks: &[u8], word: &mut [u8]) -> u32
+    ensures { λ r. ⌜ r ≡ repairStatus (marked (now (marks .entry))) (now (frame .entry)) (now (word .entry)) ⌝ }
+    ensures { λ _. ⌜ now (word .exit) ≡ repairWord (marked (now (marks .entry))) (now (frame .entry)) (now (word .entry)) ⌝ }
+{
+    abi_repair::repair_marked(frame, marks, word)
+}
+
 #[no_mangle]
 pub extern "C" fn gvz_frame_read(edition: u32, tuner: u32, frame: &[u8], values: &mut [u64]) -> u32
-    ensures { λ r. ⌜ r ≡ frameReadStatus (editionOf edition) (tunerOf tuner) (now (frame .entry)) (now (values .entry)) ⌝ }
-    ensures { λ _. ⌜ now (values .exit) ≡ frameReadRecord (editionOf edition) (tunerOf tuner) (now (frame .entry)) (now (values .entry)) ⌝ }
+    ensures { λ r. ⌜ r ≡ frameReadStatus (editionOf edition) unmarked (tunerOf tuner) (now (frame .entry)) (now (values .entry)) ⌝ }
+    ensures { λ _. ⌜ now (values .exit) ≡ frameReadRecord (editionOf edition) unmarked (tunerOf tuner) (now (frame .entry)) (now (values .entry)) ⌝ }
 {
     abi_frame::frame_read(edition, tuner, frame, values)
+}
+
+#[no_mangle]
+pub extern "C" fn gvz_frame_read_marked(
+    edition: u32,
+    tuner: u32,
+    frame: &[u8],
+    marks: &[u8],
+    values: &mut [u64],
+) -> u32
+    ensures { λ r. ⌜ r ≡ frameReadStatus (editionOf edition) (marked (now (marks .entry))) (tunerOf tuner) (now (frame .entry)) (now (values .entry)) ⌝ }
+    ensures { λ _. ⌜ now (values .exit) ≡ frameReadRecord (editionOf edition) (marked (now (marks .entry))) (tunerOf tuner) (now (frame .entry)) (now (values .entry)) ⌝ }
+{
+    abi_marked_frame::frame_read_marked(edition, tuner, frame, marks, values)
+}
+
+// By the first edition.
+#[no_mangle]
+pub extern "C" fn gvz_frame_judge_marked(frame: &[u8], marks: &[u8]) -> u32
+    ensures { λ r. ⌜ r ≡ judgeMarkedStatus (now (frame .entry)) (now (marks .entry)) ⌝ }
+{
+    abi_marked_frame::frame_judge_marked(frame, marks)
 }
 
 #[no_mangle]
@@ -114,10 +147,23 @@ pub extern "C" fn gvz_header_write(values: &[u64], header: &mut [u8]) -> u32
 
 #[no_mangle]
 pub extern "C" fn gvz_lay_in(edition: u32, header: &mut [u8], frame: &[u8]) -> u32
-    ensures { λ r. ⌜ r ≡ layInStatus (editionOf edition) (now (header .entry)) (now (frame .entry)) ⌝ }
-    ensures { λ _. ⌜ now (header .exit) ≡ layInOf (editionOf edition) (now (header .entry)) (now (frame .entry)) ⌝ }
+    ensures { λ r. ⌜ r ≡ layInStatus (editionOf edition) unmarked (now (header .entry)) (now (frame .entry)) ⌝ }
+    ensures { λ _. ⌜ now (header .exit) ≡ layInOf (editionOf edition) unmarked (now (header .entry)) (now (frame .entry)) ⌝ }
 {
     abi_laying::lay_in(edition, header, frame)
+}
+
+#[no_mangle]
+pub extern "C" fn gvz_lay_in_marked(
+    edition: u32,
+    header: &mut [u8],
+    frame: &[u8],
+    marks: &[u8],
+) -> u32
+    ensures { λ r. ⌜ r ≡ layInStatus (editionOf edition) (marked (now (marks .entry))) (now (header .entry)) (now (frame .entry)) ⌝ }
+    ensures { λ _. ⌜ now (header .exit) ≡ layInOf (editionOf edition) (marked (now (marks .entry))) (now (header .entry)) (now (frame .entry)) ⌝ }
+{
+    abi_laying::lay_in_marked(edition, header, frame, marks)
 }
 
 #[no_mangle]

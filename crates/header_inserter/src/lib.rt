@@ -75,7 +75,10 @@ pub fn lay_in_marked(edition: Edition, header: &mut [u8], frame: &[u8], marks: &
     if number != 0 {
         return number;
     }
-    lay_cleaned(header, frame_marked_reader::clean_marked(edition, frame, marks))
+    lay_cleaned(
+        header,
+        frame_marked_reader::clean_marked(edition, frame, marks),
+    )
 }
 
 // 204 ones into a header. The header alone is tested; a refusal changes nothing.

@@ -10,6 +10,7 @@ use Rattle.abi_tuner.specs.Tuner.{tunerOf}
 use Rattle.abi_frame.proofs.Cases.{read-wrong, read-told}
 use Rattle.abi_frame.proofs.frame_read.Statement.{statement}
 use Rattle.abi_frame.proofs.frame_read.Tie as tie
+
 status-requires : tie.Need-status-requires
 status-requires c κs = search needs
 

@@ -4,6 +4,7 @@ use borrow.Author.Needs.{needs}
 use Rattle.abi_frame.proofs.Cases.{told-accepted, told-refused}
 use Rattle.abi_frame.proofs.put_reading.Statement.{statement}
 use Rattle.abi_frame.proofs.put_reading.Tie as tie
+
 enum-known-reading : tie.Need-enum-known-reading
 enum-known-reading c = search needs
 

@@ -9,6 +9,7 @@ use Rattle.abi.specs.Status.{statusOf}
 use Rattle.abi_laying.specs.Laying.{layInStatus}
 use Rattle.abi_laying.proofs.lay_in_marked.Statement.{statement}
 use Rattle.abi_laying.proofs.lay_in_marked.Tie as tie
+
 edition-of-requires : tie.Need-edition-of-requires
 edition-of-requires c κs = search needs
 

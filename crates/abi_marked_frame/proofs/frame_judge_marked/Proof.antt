@@ -3,6 +3,7 @@ use borrow.Author.Needs.{needs}
 use Rattle.abi_marked_frame.proofs.Cases.{judged-accepted, judged-refused}
 use Rattle.abi_marked_frame.proofs.frame_judge_marked.Statement.{statement}
 use Rattle.abi_marked_frame.proofs.frame_judge_marked.Tie as tie
+
 read-marked-requires : tie.Need-read-marked-requires
 read-marked-requires c κs = search needs
 

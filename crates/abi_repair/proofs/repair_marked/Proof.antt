@@ -5,6 +5,7 @@ use Rattle.dsc.specs.Marks.{marked}
 use Rattle.abi_repair.proofs.RepairCases.{wrong-buffer, told}
 use Rattle.abi_repair.proofs.repair_marked.Statement.{statement}
 use Rattle.abi_repair.proofs.repair_marked.Tie as tie
+
 status-requires : tie.Need-status-requires
 status-requires c κs = search needs
 

@@ -7,6 +7,7 @@ use Rattle.frame_reader.specs.Examined.{cleanedFrom}
 use Rattle.frame_reader.proofs.ReadingCleaned.{cleaned-examined}
 use Rattle.frame_marked_reader.proofs.clean_marked.Statement.{statement}
 use Rattle.frame_marked_reader.proofs.clean_marked.Tie as tie
+
 examine-marked-requires : tie.Need-examine-marked-requires
 examine-marked-requires c κs = search needs
 

@@ -8,6 +8,7 @@ use Rattle.frame.proofs.Marks.{marked-frames}
 use Rattle.frame_reader.proofs.ReadingExamined.{examined-refused, preamble-refused, examined-answer}
 use Rattle.frame_marked_reader.proofs.examine_marked.Statement.{statement}
 use Rattle.frame_marked_reader.proofs.examine_marked.Tie as tie
+
 refused-requires : tie.Need-refused-requires
 refused-requires c κs = search needs
 

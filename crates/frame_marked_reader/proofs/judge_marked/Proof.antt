@@ -7,6 +7,7 @@ use Rattle.frame.specs.declared.Tuner.the-variants.{None}
 use Rattle.frame_reader.proofs.ReadingExamined.{verdict-read}
 use Rattle.frame_marked_reader.proofs.judge_marked.Statement.{statement}
 use Rattle.frame_marked_reader.proofs.judge_marked.Tie as tie
+
 read-marked-requires : tie.Need-read-marked-requires
 read-marked-requires c κs = search needs
 

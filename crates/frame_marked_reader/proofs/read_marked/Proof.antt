@@ -5,6 +5,7 @@ use Rattle.frame_reader.specs.Examined.{examinedBy}
 use Rattle.frame_reader.specs.declared.Examined.{Examined}
 use Rattle.frame_marked_reader.proofs.read_marked.Statement.{statement}
 use Rattle.frame_marked_reader.proofs.read_marked.Tie as tie
+
 examine-marked-requires : tie.Need-examine-marked-requires
 examine-marked-requires c κs = search needs
 

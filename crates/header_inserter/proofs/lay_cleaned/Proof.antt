@@ -4,6 +4,7 @@ use borrow.Author.Needs.{needs}
 use Rattle.header_inserter.proofs.Cases.{cleaned-refused, cleaned-laid}
 use Rattle.header_inserter.proofs.lay_cleaned.Statement.{statement}
 use Rattle.header_inserter.proofs.lay_cleaned.Tie as tie
+
 returns : tie.Need-returns
 returns c = cleaned-refused _ (c .before .before .before .args .cleaned) (λ e. omega (arith, e))
 

@@ -4,6 +4,7 @@ use Rattle.dsc.specs.Marks.{marked}
 use Rattle.header_inserter.proofs.Cases.{accepted-size, header-refused, laid}
 use Rattle.header_inserter.proofs.lay_in_marked.Statement.{statement}
 use Rattle.header_inserter.proofs.lay_in_marked.Tie as tie
+
 refusal-requires : tie.Need-refusal-requires
 refusal-requires c κs = search needs
 
