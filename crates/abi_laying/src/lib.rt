@@ -22,10 +22,8 @@ pub fn lay_in_marked(edition: u32, header: &mut [u8], frame: &[u8], marks: &[u8]
     ensures header { λ _. ⌜ now (header .exit) ≡ layInOf (editionOf edition) (marked (now (marks .entry))) (now (header .entry)) (now (frame .entry)) ⌝ }
 {
     let named = abi_edition::edition_of(edition);
-    abi::status(
-        header_inserter::lay_in_marked(named, header, frame, marks),
-        0,
-    )
+    let laid = header_inserter::lay_in_marked(named, header, frame, marks);
+    abi::status(laid, 0)
 }
 
 // Takes a frame out of a header.

@@ -134,12 +134,13 @@ module _ {t s : ℕ} {c e : List Bool} {f m : List ℕ} (h : HitMarked t s c e f
           (marked-repair-found f m complete d k w)
       go (none z) = refused (marked-repair-none f m complete z)
 
-  eighteen : 2 * t + s ≡ 18 → markedRepairOf f m ≡ refusedWith 4
-  eighteen l = go (beyond (omega arith))
+  -- where no count of a wrong word is possible
+  only-refused : 18 ≤ 2 * t + s → ((u : ℕ) → 2 * u + s ≤ 17 → 18 ≤ t + u + s → ⊥) → markedRepairOf f m ≡ refusedWith 4
+  only-refused l no-count = go (beyond l)
     where
       go : RefusedOrWrong (λ u. (2 * u + s ≤ 17) × (18 ≤ t + u + s)) c (markedRepairOf f m) → markedRepairOf f m ≡ refusedWith 4
       go (refused e) = e
-      go (wrong d u k n p q e) = absurd (omega (arith, p .0, p .1))
+      go (wrong d u k n p q e) = absurd (no-count u (p .0) (p .1))
 
 pub doubtful-marks : DoubtfulMarks
 doubtful-marks =
@@ -157,7 +158,7 @@ doubtful-marks =
       no-marks-tried = λ t r. ball-unmarked t (length r) r refl;
       gives-sent-word = λ t s l f m c e h. sent-word h l;
       beyond = λ t s l f m c e h. beyond h l;
-      eighteen = λ t s l f m c e h. eighteen h l;
+      eighteen = λ t s l f m c e h. only-refused h (omega arith) (λ u p q. omega arith);
       many-marks = λ f m hf hm l. marked-repair-none f m (sized-whole (marked m) f hf hm) (λ c k d. omega arith);
       held = λ c e ms k le lm.
           record {
@@ -194,9 +195,11 @@ marked-worked =
       seventeen = sent-word (marks-held 0 17 (zeros 187) (zeros 187) (zeros 187) (firstPlaces 17) zero refl refl refl refl refl refl) (omega arith);
       seventeen-and-one =
           sent-word (marks-held 0 17 generatorWord (firstPlaces 17) (nextPlace 17) (firstPlaces 17) (worked .example2) refl refl refl refl refl refl) (omega arith);
-      sixteen-and-one = eighteen (marks-held 1 16 (zeros 187) (nextPlace 16) (nextPlace 16) (firstPlaces 16) zero refl refl refl refl refl refl) refl;
+      sixteen-and-one =
+          only-refused (marks-held 1 16 (zeros 187) (nextPlace 16) (nextPlace 16) (firstPlaces 16) zero refl refl refl refl refl refl) (omega arith) (λ u p q. omega arith);
       fifteen-and-one = sent-word (marks-held 1 15 (zeros 187) (nextPlace 15) (nextPlace 15) (firstPlaces 15) zero refl refl refl refl refl refl) (omega arith);
-      eighteen = eighteen (marks-held 0 18 (zeros 187) (zeros 187) (zeros 187) (firstPlaces 18) zero refl refl refl refl refl refl) refl;
+      eighteen =
+          only-refused (marks-held 0 18 (zeros 187) (zeros 187) (zeros 187) (firstPlaces 18) zero refl refl refl refl refl refl) (omega arith) (λ u p q. omega arith);
     }
   where
     zero : CodeWord (zeros 187)

@@ -50,12 +50,12 @@ both true true e = (refl, refl)
 both true false e = absurd (true≢false (sym e))
 both false b e = absurd (true≢false (sym e))
 
+pub whole-marks : (m f : List ℕ) → whole (marked m) f ≡ true → length m ≡ 26
+whole-marks m f e = eqb-true (length m) 26 (both (eqb (length f) 26) (eqb (length m) 26) e .1)
+
 pub whole-frame : (q : Marking) (f : List ℕ) → whole q f ≡ true → length f ≡ 26
 whole-frame unmarked f e = eqb-true (length f) 26 e
 whole-frame (marked m) f e = eqb-true (length f) 26 (both (eqb (length f) 26) (eqb (length m) 26) e .0)
-
-pub whole-marks : (m f : List ℕ) → whole (marked m) f ≡ true → length m ≡ 26
-whole-marks m f e = eqb-true (length m) 26 (both (eqb (length f) 26) (eqb (length m) 26) e .1)
 
 pub marked-whole : (m f : List ℕ) → length m ≡ 26 → whole (marked m) f ≡ whole unmarked f
 marked-whole m f h = ap (eqb (length f) 26 &&_) (eq-eqb (length m) 26 h) ∙ and-true (eqb (length f) 26)
@@ -92,7 +92,9 @@ module _ (f m : List ℕ) where
 
     decoded : (d : Decoded) → decodeMarked (protected m) (protected f) ≡ d → markedRepairOf f m ≡ markedAnswer (protected m) (protected f) d
     unfolding markedRepairOf
-    decoded d e = rw (w, e)
+    decoded d e =
+        ap (λ (t : Bool). cond t (markedAnswer (protected m) (protected f) (decodeMarked (protected m) (protected f))) (refusedWith 1)) w
+        ∙ ap (markedAnswer (protected m) (protected f)) e
 
     pub marked-repair-found : (c : List Bool) → CodeWord c → Few (protected m) (unmarkedDist (protected m) (protected f) c)
         → markedRepairOf f m ≡ repairedTo c (unmarkedDist (protected m) (protected f) c)

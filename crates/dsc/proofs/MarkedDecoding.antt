@@ -24,6 +24,34 @@ use Rattle.dsc.proofs.Decoding.{All, all-append, all-map, all-weaker, m
 abbrev Within : ℕ → (ms r w : List Bool) → Type 0
 Within t ms r w = (length w ≡ length r) × (unmarkedDist ms r w ≤ t)
 
+under-mark : (t : ℕ) (a b : Bool) (ms r w : List Bool) → List·Memᴰ w (markedBall t ms r) → List·Memᴰ (a ∷ w) (markedBall t (true ∷ ms) (b ∷ r))
+unfolding markedBall
+under-mark t false b ms r w m = Memᴰ·append-left (map (true ∷_) (markedBall t ms r)) (mem-map (false ∷_) w (markedBall t ms r) m)
+under-mark t true b ms r w m = Memᴰ·append-right (map (false ∷_) (markedBall t ms r)) (mem-map (true ∷_) w (markedBall t ms r) m)
+
+same-first : (t : ℕ) (b : Bool) (ms r w : List Bool) → List·Memᴰ w (markedBall t ms r) → List·Memᴰ (b ∷ w) (markedBall t (false ∷ ms) (b ∷ r))
+unfolding markedBall
+same-first zero b ms r w m = mem-map (b ∷_) w (markedBall zero ms r) m
+same-first (suc t) b ms r w m = Memᴰ·append-left (map (not b ∷_) (markedBall t ms r)) (mem-map (b ∷_) w (markedBall (suc t) ms r) m)
+
+other-first : (t : ℕ) (b : Bool) (ms r w : List Bool) → List·Memᴰ w (markedBall t ms r) → List·Memᴰ (not b ∷ w) (markedBall (suc t) (false ∷ ms) (b ∷ r))
+unfolding markedBall
+other-first t b ms r w m = Memᴰ·append-right (map (b ∷_) (markedBall (suc t) ms r)) (mem-map (not b ∷_) w (markedBall t ms r) m)
+
+in-marked : (t : ℕ) (ms r w : List Bool) → Within t ms r w → List·Memᴰ w (markedBall t ms r)
+unfolding markedBall filled add digit
+in-marked t [] r w h = in-ball t r w h
+in-marked t (m ∷ ms) [] [] h = List·Memᴰ·head refl
+in-marked t (m ∷ ms) [] (a ∷ w) h = absurd (omega (arith, h .0))
+in-marked t (m ∷ ms) (b ∷ r) [] h = absurd (omega (arith, h .0))
+in-marked t (true ∷ ms) (b ∷ r) (a ∷ w) h = under-mark t a b ms r w (in-marked t ms r w (suc-inj (h .0), omega (arith, h .1)))
+in-marked t (false ∷ ms) (true ∷ r) (true ∷ w) h = same-first t true ms r w (in-marked t ms r w (suc-inj (h .0), omega (arith, h .1)))
+in-marked t (false ∷ ms) (false ∷ r) (false ∷ w) h = same-first t false ms r w (in-marked t ms r w (suc-inj (h .0), omega (arith, h .1)))
+in-marked zero (false ∷ ms) (true ∷ r) (false ∷ w) h = absurd (omega (arith, h .1))
+in-marked zero (false ∷ ms) (false ∷ r) (true ∷ w) h = absurd (omega (arith, h .1))
+in-marked (suc t) (false ∷ ms) (true ∷ r) (false ∷ w) h = other-first t true ms r w (in-marked t ms r w (suc-inj (h .0), omega (arith, h .1)))
+in-marked (suc t) (false ∷ ms) (false ∷ r) (true ∷ w) h = other-first t false ms r w (in-marked t ms r w (suc-inj (h .0), omega (arith, h .1)))
+
 marked-any : (t : ℕ) (a b : Bool) (ms r w : List Bool) → Within t ms r w → Within t (true ∷ ms) (b ∷ r) (a ∷ w)
 unfolding filled add digit
 marked-any t a b ms r w h = (ap suc (h .0), omega (arith, h .1))
@@ -52,34 +80,6 @@ marked-within (suc t) (false ∷ ms) (b ∷ r) =
     all-append (Within (suc t) (false ∷ ms) (b ∷ r)) (map (b ∷_) (markedBall (suc t) ms r)) (map (not b ∷_) (markedBall t ms r))
     (all-map (Within (suc t) ms r) (Within (suc t) (false ∷ ms) (b ∷ r)) (b ∷_) (markedBall (suc t) ms r) (unmarked-same (suc t) b ms r) (marked-within (suc t) ms r))
     (all-map (Within t ms r) (Within (suc t) (false ∷ ms) (b ∷ r)) (not b ∷_) (markedBall t ms r) (unmarked-other t b ms r) (marked-within t ms r))
-
-under-mark : (t : ℕ) (a b : Bool) (ms r w : List Bool) → List·Memᴰ w (markedBall t ms r) → List·Memᴰ (a ∷ w) (markedBall t (true ∷ ms) (b ∷ r))
-unfolding markedBall
-under-mark t false b ms r w m = Memᴰ·append-left (map (true ∷_) (markedBall t ms r)) (mem-map (false ∷_) w (markedBall t ms r) m)
-under-mark t true b ms r w m = Memᴰ·append-right (map (false ∷_) (markedBall t ms r)) (mem-map (true ∷_) w (markedBall t ms r) m)
-
-same-first : (t : ℕ) (b : Bool) (ms r w : List Bool) → List·Memᴰ w (markedBall t ms r) → List·Memᴰ (b ∷ w) (markedBall t (false ∷ ms) (b ∷ r))
-unfolding markedBall
-same-first zero b ms r w m = mem-map (b ∷_) w (markedBall zero ms r) m
-same-first (suc t) b ms r w m = Memᴰ·append-left (map (not b ∷_) (markedBall t ms r)) (mem-map (b ∷_) w (markedBall (suc t) ms r) m)
-
-other-first : (t : ℕ) (b : Bool) (ms r w : List Bool) → List·Memᴰ w (markedBall t ms r) → List·Memᴰ (not b ∷ w) (markedBall (suc t) (false ∷ ms) (b ∷ r))
-unfolding markedBall
-other-first t b ms r w m = Memᴰ·append-right (map (b ∷_) (markedBall (suc t) ms r)) (mem-map (not b ∷_) w (markedBall t ms r) m)
-
-in-marked : (t : ℕ) (ms r w : List Bool) → Within t ms r w → List·Memᴰ w (markedBall t ms r)
-unfolding markedBall filled add digit
-in-marked t [] r w h = in-ball t r w h
-in-marked t (m ∷ ms) [] [] h = List·Memᴰ·head refl
-in-marked t (m ∷ ms) [] (a ∷ w) h = absurd (omega (arith, h .0))
-in-marked t (m ∷ ms) (b ∷ r) [] h = absurd (omega (arith, h .0))
-in-marked t (true ∷ ms) (b ∷ r) (a ∷ w) h = under-mark t a b ms r w (in-marked t ms r w (suc-inj (h .0), omega (arith, h .1)))
-in-marked t (false ∷ ms) (true ∷ r) (true ∷ w) h = same-first t true ms r w (in-marked t ms r w (suc-inj (h .0), omega (arith, h .1)))
-in-marked t (false ∷ ms) (false ∷ r) (false ∷ w) h = same-first t false ms r w (in-marked t ms r w (suc-inj (h .0), omega (arith, h .1)))
-in-marked zero (false ∷ ms) (true ∷ r) (false ∷ w) h = absurd (omega (arith, h .1))
-in-marked zero (false ∷ ms) (false ∷ r) (true ∷ w) h = absurd (omega (arith, h .1))
-in-marked (suc t) (false ∷ ms) (true ∷ r) (false ∷ w) h = other-first t true ms r w (in-marked t ms r w (suc-inj (h .0), omega (arith, h .1)))
-in-marked (suc t) (false ∷ ms) (false ∷ r) (true ∷ w) h = other-first t false ms r w (in-marked t ms r w (suc-inj (h .0), omega (arith, h .1)))
 
 -- ---- two words, seen from a third: they differ at most where one of them does, or where a mark is set
 

@@ -63,6 +63,11 @@ module _ (ed : Edition) where
   refusals r =
       (6, isUndefined (classOf ed (r .identification))) ∷ (10, tooWide ed r) ∷ (9, overLimit (recordBody ed r) (r .latitude) (r .longitude)) ∷ []
 
+  pub sound-legal : (r : Record) → Sound r → Legal ed r
+  unfolding recordRefusal refusals
+  sound-legal r s =
+      none-refusal (refusals r) (s .known, (rw (fit-fitb (fieldWidths (recordBody ed r)) (fields r) (s .fit)), (s .limits, tt)))
+
   pub legal-sound : (r : Record) → Legal ed r → Sound r
   unfolding recordRefusal refusals
   legal-sound r e =
@@ -72,11 +77,6 @@ module _ (ed : Edition) where
         fit = fitb-fit (fieldWidths (recordBody ed r)) (fields r) (not-false (fitb (fieldWidths (recordBody ed r)) (fields r)) (h .1 .0));
         limits = h .1 .1 .0;
       }
-
-  pub sound-legal : (r : Record) → Sound r → Legal ed r
-  unfolding recordRefusal refusals
-  sound-legal r s =
-      none-refusal (refusals r) (s .known, (rw (fit-fitb (fieldWidths (recordBody ed r)) (fields r) (s .fit)), (s .limits, tt)))
 
 -- ---- the tables
 

@@ -103,8 +103,7 @@ module _ (ed : Edition) where
 
   pub length-frame : (r : Record) → length (frameOf ed r) ≡ 26
   unfolding frameOf
-  length-frame r =
-      length-bytes 26 (bitsOf 1 (r .reference) ++ (patternBits (r .pattern) ++ (messageBits ed r ++ (parityOf (messageBits ed r) ++ zeros 4))))
+  length-frame r = length-bytes 26 _
 
   pub bits-frame : (r : Record) → bits (frameOf ed r) ≡ bitsOf 1 (r .reference) ++ (patternBits (r .pattern) ++ (wordOf r ++ zeros 4))
   unfolding frameOf
