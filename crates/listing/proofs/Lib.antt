@@ -1,3 +1,6 @@
+pub mod Counts
+pub mod Cuts
+pub mod NextLine
 pub mod Verdicts
 pub mod LineLengths
 pub mod Promises

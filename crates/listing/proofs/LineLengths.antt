@@ -7,13 +7,15 @@ use native.Mathlib.Omega.{arith}
 use lib.Dec.{eqb, leb}
 use lib.ListN.{length, take, drop, length-append}
 use borrow.Author.Tests.{leb-true}
-use Rattle.frame.specs.Read.{judgeOf}
 use Rattle.frame.specs.declared.Edition.{Edition}
 use Rattle.frame.specs.declared.Verdict.{Verdict}
 use Rattle.decimals.specs.Decimal.{decimal}
-use Rattle.listing.specs.Lines.{placesText, lineOf, endLine, pieceCount, lines, listCount, endCount}
+use Rattle.listing.specs.Lines.{pieceSize, verdictOf, placesText, lineOf, endLine, pieceCount, lines, listCount, endCount}
+use Rattle.listing.specs.declared.Pieces.{Pieces}
 use Rattle.decimals.proofs.Decimals.{length-word, length-byte}
-use Rattle.listing.proofs.Verdicts.{refusal-small, places-small}
+use Rattle.listing.proofs.Counts.{count-most}
+use Rattle.listing.proofs.NextLine.{lines-none, lines-next}
+use Rattle.listing.proofs.Verdicts.{verdict-small}
 
 pub length-places : (v : Verdict) → v .repaired < 256 → length (placesText v) ≤ 3
 length-places v h = go (eqb (v .number) 0)
@@ -31,27 +33,27 @@ pub length-end : (n : ℕ) → n < 18446744073709551616 → length (endLine n) �
 unfolding endLine
 length-end n h = simp length-append (omega (arith, length-word n h))
 
-module _ (ed : Edition) where
-  pub line-short : (n : ℕ) (f : List ℕ) → n < 18446744073709551616 → length (lineOf n (judgeOf ed f)) ≤ 32
-  unfolding judgeOf
-  line-short n f h = length-line n (judgeOf ed f) h (omega (arith, refusal-small ed f)) (omega (arith, places-small ed f))
+module _ (ed : Edition) (p : Pieces) where
+  pub line-short : (n : ℕ) (s : List ℕ) → n < 18446744073709551616 → length (lineOf n (verdictOf ed p s)) ≤ 32
+  line-short n s h = let small = verdict-small ed p s in length-line n (verdictOf ed p s) h (small .0) (small .1)
 
-  pub length-lines : (k n : ℕ) (s : List ℕ) → n + k < 18446744073709551616 → length (lines ed k n s) ≤ 32 * k
-  unfolding lines
-  length-lines zero n s h = omega arith
+  pub length-lines : (k n : ℕ) (s : List ℕ) → n + k < 18446744073709551616 → length (lines ed p k n s) ≤ 32 * k
+  length-lines zero n s h = rw (lines-none ed p n s) (omega arith)
   length-lines (suc k) n s h =
-      simp length-append (omega (arith, line-short n (take 26 s) (omega arith), length-lines k (n + 1) (drop 26 s) (omega arith)))
+      let first = line-short n (take (pieceSize p) s) (omega arith) in
+      let others = length-lines k (n + 1) (drop (pieceSize p) s) (omega arith) in
+      rw (lines-next ed p k n s) (simp length-append (omega arith))
 
   -- what `list` answers is at most the buffer's length, and what `end` answers is at most 32
-  pub list-within : (s : List ℕ) (n m j : ℕ) → j ≡ listCount ed s n m → n + length s < 18446744073709551616 → j ≤ m
+  pub list-within : (s : List ℕ) (n m j : ℕ) → j ≡ listCount ed p s n m → n + length s < 18446744073709551616 → j ≤ m
   unfolding listCount
   list-within s n m j e h = rw e (go (leb (32 * k) m) refl)
     where
       k : ℕ
-      k = pieceCount (length s)
+      k = pieceCount p (length s)
 
-      go : (t : Bool) → leb (32 * k) m ≡ t → cond t (length (lines ed k n s)) 0 ≤ m
-      go true q = omega (arith, leb-true (32 * k) m q, length-lines k n s (omega arith))
+      go : (t : Bool) → leb (32 * k) m ≡ t → cond t (length (lines ed p k n s)) 0 ≤ m
+      go true q = omega (arith, leb-true (32 * k) m q, length-lines k n s (omega (arith, count-most p (length s))))
       go false q = omega arith
 
 pub end-within : (n m j : ℕ) → j ≡ endCount n m → n < 18446744073709551616 → j ≤ 32

@@ -1,103 +1,138 @@
 -- The promises hold. Assumes nothing.
 use mathlib.Core.Path.{_≡_, refl, sym, ap, ap₂, _∙_}
 use mathlib.Core.List.{List, [], _∷_, _++_, append-assoc, append-nil}
-use Prim.Native.Nat.{ℕ, zero, suc, _+_, _*_, min}
+use Prim.Native.Nat.{ℕ, zero, suc, _+_, _*_, _<_, min}
 use native.Mathlib.Omega.{arith}
 use lib.ListN.{length, take, drop, length-append, length-drop}
 use lib.Seq.{take-all, take-append-le, drop-append-le, take-at, drop-at}
+use borrow.Author.Tests.{ne-eqb}
 use Rattle.bits.specs.Refusal.{firstRefusal}
 use Rattle.frame.specs.Read.{judgeOf, frameRefusal, placesIn}
 use Rattle.frame.specs.declared.Edition.{Edition}
 use Rattle.frame.specs.declared.Verdict.{Verdict}
 use Rattle.frame.proofs.Editions.{editions}
-use Rattle.decimals.specs.Decimal.{digits}
-use Rattle.listing.specs.Lines.{lineOf, endLine, pieceCount, lines, listingOf}
-use Rattle.listing.specs.Promises.{NoneSafety, Listing}
+use Rattle.decimals.specs.Decimal.{decimal, digits}
+use Rattle.listing.specs.Lines.{pieceSize, verdictOf, lineOf, endLine, pieceCount, lines, listingOf}
+use Rattle.listing.specs.Promises.{Listing, NoneSafety, FrameListing}
+use Rattle.listing.specs.declared.Pieces.{Pieces}
+use Rattle.listing.specs.declared.Pieces.the-variants.{Frames}
+use Rattle.listing.proofs.Counts.{count-none, count-least, count-two, whole-next}
+use Rattle.listing.proofs.NextLine.{lines-none, lines-next}
 use Rattle.listing.proofs.LineLengths.{line-short}
 
-module _ (ed : Edition) where
-  empty : listingOf ed [] ≡ 101 ∷ 110 ∷ 100 ∷ 32 ∷ 48 ∷ 10 ∷ []
-  unfolding listingOf lines endLine digits
-  empty = refl
+-- ---- lines, as bytes
 
-  -- ---- the lines of no piece, and of one more
+-- `1 0 t`
+accepted-line : (t : ℕ) → lineOf 1 (record { number = 0; repaired = t }) ≡ 49 ∷ 32 ∷ 48 ∷ 32 ∷ (decimal t ++ 10 ∷ [])
+unfolding lineOf digits
+accepted-line t = refl
 
-  pub lines-none : (n : ℕ) (s : List ℕ) → lines ed 0 n s ≡ []
-  unfolding lines
-  lines-none n s = refl
+-- `2 1 -`
+refused-line : (v : Verdict) → v .number ≡ 1 → lineOf 2 v ≡ 50 ∷ 32 ∷ 49 ∷ 32 ∷ 45 ∷ 10 ∷ []
+unfolding lineOf digits
+refused-line v e = rw e
 
-  pub lines-next : (k n : ℕ) (s : List ℕ) → lines ed (suc k) n s ≡ lineOf n (judgeOf ed (take 26 s)) ++ lines ed k (n + 1) (drop 26 s)
-  unfolding lines
-  lines-next k n s = refl
+-- `end 2`
+two-end : endLine 2 ≡ 101 ∷ 110 ∷ 100 ∷ 32 ∷ 50 ∷ 10 ∷ []
+unfolding endLine digits
+two-end = refl
+
+module _ (ed : Edition) (p : Pieces) where
+  empty : listingOf ed p [] ≡ 101 ∷ 110 ∷ 100 ∷ 32 ∷ 48 ∷ 10 ∷ []
+  unfolding listingOf endLine digits
+  empty = rw (count-none p, lines-none ed p)
 
   -- ---- in turns
 
-  pub turns : (s t : List ℕ) (k j n : ℕ) → length s ≡ 26 * k → lines ed (k + j) n (s ++ t) ≡ lines ed k n s ++ lines ed j (n + k) t
+  pub turns : (s t : List ℕ) (k j n : ℕ) → length s ≡ pieceSize p * k → lines ed p (k + j) n (s ++ t) ≡ lines ed p k n s ++ lines ed p j (n + k) t
   turns [] t zero j n h =
       let a : 0 + j ≡ j = omega arith in
       let b : n + 0 ≡ n = omega arith in
-      rw (a, b, lines-none n [])
+      rw (a, b, lines-none ed p n [])
   turns (x ∷ s) t zero j n h = absurd (omega arith)
   turns s t (suc k) j n h =
       let a : suc k + j ≡ suc (k + j) = omega arith in
       let b : n + suc k ≡ n + 1 + k = omega arith in
-      rw (a, b, lines-next (k + j) n (s ++ t), lines-next k n s, take-append-le 26 s t (omega arith), drop-append-le 26 s t (omega arith), append-assoc)
-      (ap (lineOf n (judgeOf ed (take 26 s)) ++_) (turns (drop 26 s) t k j (n + 1) (omega (arith, length-drop 26 s))))
+      let z = pieceSize p in
+      let w = whole-next p (length s) k h in
+      rw (a, b, lines-next ed p (k + j) n (s ++ t), lines-next ed p k n s, take-append-le z s t (w .0), drop-append-le z s t (w .0), append-assoc)
+      (ap (lineOf n (verdictOf ed p (take z s)) ++_) (turns (drop z s) t k j (n + 1) (length-drop z s ∙ w .1)))
 
-  -- the lines of a row of whole frames do not depend on what follows
-  pub lines-front : (m n : ℕ) (s t : List ℕ) → length s ≡ 26 * m → lines ed m n (s ++ t) ≡ lines ed m n s
+  -- the lines of a row of whole pieces do not depend on what follows
+  pub lines-front : (m n : ℕ) (s t : List ℕ) → length s ≡ pieceSize p * m → lines ed p m n (s ++ t) ≡ lines ed p m n s
   lines-front m n s t h =
       let z : m + 0 ≡ m = omega arith in
-      ap (λ (k : ℕ). lines ed k n (s ++ t)) (sym z)
+      ap (λ (k : ℕ). lines ed p k n (s ++ t)) (sym z)
       ∙ turns s t m 0 n h
-      ∙ ap (lines ed m n s ++_) (lines-none (n + m) t)
-      ∙ append-nil (lines ed m n s)
+      ∙ ap (lines ed p m n s ++_) (lines-none ed p (n + m) t)
+      ∙ append-nil (lines ed p m n s)
 
   -- ---- where it stops
 
-  -- for any number of frames after which reading stops
-  stops-at : (m : ℕ) (s t : List ℕ) → length s ≡ 26 * m
-      → lines ed (min (pieceCount (length (s ++ t))) m) 1 (s ++ t) ++ endLine (min (pieceCount (length (s ++ t))) m)
-      ≡ lines ed (min (pieceCount (length s)) m) 1 s ++ endLine (min (pieceCount (length s)) m)
+  -- for any number of pieces after which reading stops
+  stops-at : (m : ℕ) (s t : List ℕ) → length s ≡ pieceSize p * m
+      → lines ed p (min (pieceCount p (length (s ++ t))) m) 1 (s ++ t) ++ endLine (min (pieceCount p (length (s ++ t))) m)
+      ≡ lines ed p (min (pieceCount p (length s)) m) 1 s ++ endLine (min (pieceCount p (length s)) m)
   stops-at m s t h =
-      let a : min (pieceCount (length (s ++ t))) m ≡ m = omega (arith, length-append s t) in
-      let b : min (pieceCount (length s)) m ≡ m = omega arith in
+      let l = length-append s t in
+      let a : min (pieceCount p (length (s ++ t))) m ≡ m = omega (arith, count-least p (length (s ++ t)) m (omega arith)) in
+      let b : min (pieceCount p (length s)) m ≡ m = omega (arith, count-least p (length s) m (omega arith)) in
       rw (a, b, lines-front m 1 s t h)
 
-  stops : (s t : List ℕ) → length s ≡ 26 * 999999 → listingOf ed (s ++ t) ≡ listingOf ed s
+  stops : (s t : List ℕ) → length s ≡ pieceSize p * 999999 → listingOf ed p (s ++ t) ≡ listingOf ed p s
   unfolding listingOf
   stops s t h = stops-at 999999 s t h
 
   -- ---- the example
 
-  -- frame 1, accepted as it was received
-  first-line : lineOf 1 (record { number = 0; repaired = 0 }) ≡ 49 ∷ 32 ∷ 48 ∷ 32 ∷ 48 ∷ 10 ∷ []
-  unfolding lineOf digits
-  first-line = refl
+  -- a whole piece and a short one
+  two-pieces : (f x : List ℕ) → length f ≡ pieceSize p → 0 < length x → length x < pieceSize p
+      → listingOf ed p (f ++ x) ≡ lineOf 1 (verdictOf ed p f) ++ (lineOf 2 (verdictOf ed p x) ++ endLine 2)
+  unfolding listingOf
+  two-pieces f x h a b =
+      let z = pieceSize p in
+      let l = length-append f x in
+      let c = count-two p (length (f ++ x)) (length x) (omega arith) a (omega arith) in
+      rw (c, lines-next ed p 1 1 (f ++ x), lines-next ed p 0 2 (drop z (f ++ x)), take-at f x z h, drop-at f x z h, take-all z x (omega arith), lines-none ed p 3 (drop z x))
+      (simp append-assoc)
 
-  accepted-line : (f : List ℕ) → frameRefusal ed f ≡ 0 → placesIn ed f ≡ 0 → lineOf 1 (judgeOf ed f) ≡ 49 ∷ 32 ∷ 48 ∷ 32 ∷ 48 ∷ 10 ∷ []
-  unfolding judgeOf
-  accepted-line f a b = ap₂ (λ (n m : ℕ). lineOf 1 (record { number = n; repaired = m })) a b ∙ first-line
+  example : (f x : List ℕ) (t : ℕ) → length f ≡ pieceSize p → verdictOf ed p f ≡ record { number = 0; repaired = t }
+      → 0 < length x → length x < pieceSize p → verdictOf ed p x .number ≡ 1
+      → listingOf ed p (f ++ x)
+      ≡ (49 ∷ 32 ∷ 48 ∷ 32 ∷ (decimal t ++ 10 ∷ [])) ++ 50 ∷ 32 ∷ 49 ∷ 32 ∷ 45 ∷ 10 ∷ 101 ∷ 110 ∷ 100 ∷ 32 ∷ 50 ∷ 10 ∷ []
+  example f x t h e a b r =
+      two-pieces f x h a b
+      ∙ ap₂ _++_ (ap (lineOf 1) e ∙ accepted-line t) (ap₂ _++_ (refused-line (verdictOf ed p x) r) two-end)
 
-  -- a short piece
-  short-line : (x : List ℕ) → length x ≡ 5 → lineOf 2 (judgeOf ed x) ≡ 50 ∷ 32 ∷ 49 ∷ 32 ∷ 45 ∷ 10 ∷ []
-  unfolding judgeOf lineOf digits frameRefusal firstRefusal
-  short-line x h = rw h
+  pub listing-laws : Listing ed p
+  listing-laws = record { empty = empty; example = example; turns = turns; stops = stops; line-short = line-short ed p }
 
-  example : (f x : List ℕ) → length f ≡ 26 → frameRefusal ed f ≡ 0 → placesIn ed f ≡ 0 → length x ≡ 5
-      → listingOf ed (f ++ x) ≡ 49 ∷ 32 ∷ 48 ∷ 32 ∷ 48 ∷ 10 ∷ 50 ∷ 32 ∷ 49 ∷ 32 ∷ 45 ∷ 10 ∷ 101 ∷ 110 ∷ 100 ∷ 32 ∷ 50 ∷ 10 ∷ []
-  unfolding listingOf lines endLine digits
-  example f x h a b k =
-      let n : length (f ++ x) ≡ 31 = omega (arith, length-append f x) in
-      rw (n, take-at f x 26 h, drop-at f x 26 h, take-all 26 x (omega arith), accepted-line f a b, short-line x k)
+-- ---- of frames
+
+module _ (ed : Edition) where
+  short : (s : List ℕ) → length s < pieceSize Frames → verdictOf ed Frames s ≡ record { number = 1; repaired = 0 }
+  unfolding verdictOf judgeOf placesIn frameRefusal firstRefusal
+  short s h = rw (ne-eqb (length s) 26 (λ e. omega arith))
+
+  accepted : (f : List ℕ) → frameRefusal ed f ≡ 0 → placesIn ed f ≡ 0 → verdictOf ed Frames f ≡ record { number = 0; repaired = 0 }
+  unfolding verdictOf judgeOf
+  accepted f a b = ap₂ (λ (n m : ℕ). record { number = n; repaired = m }) a b
+
+  frame-example : (f x : List ℕ) → length f ≡ 26 → frameRefusal ed f ≡ 0 → placesIn ed f ≡ 0 → length x ≡ 5
+      → listingOf ed Frames (f ++ x) ≡ 49 ∷ 32 ∷ 48 ∷ 32 ∷ 48 ∷ 10 ∷ 50 ∷ 32 ∷ 49 ∷ 32 ∷ 45 ∷ 10 ∷ 101 ∷ 110 ∷ 100 ∷ 32 ∷ 50 ∷ 10 ∷ []
+  unfolding digits
+  frame-example f x h a b k =
+      example ed Frames f x 0 h (accepted f a b) (omega arith) (omega arith) (ap (λ (v : Verdict). v .number) (short x (omega arith)))
 
   -- ---- another edition
 
-  alike : (other : Edition) (k n : ℕ) (s : List ℕ) → NoneSafety k s → lines ed k n s ≡ lines other k n s
-  unfolding NoneSafety lines
-  alike other zero n s h = refl
+  alike : (other : Edition) (k n : ℕ) (s : List ℕ) → NoneSafety k s → lines ed Frames k n s ≡ lines other Frames k n s
+  unfolding NoneSafety verdictOf
+  alike other zero n s h = lines-none ed Frames n s ∙ sym (lines-none other Frames n s)
   alike other (suc k) n s h =
-      ap₂ (λ (v : Verdict) (l : List ℕ). lineOf n v ++ l) (editions .frame-alike ed other (take 26 s) (h .0) .judged) (alike other k (n + 1) (drop 26 s) (h .1))
+      lines-next ed Frames k n s
+      ∙ ap₂ (λ (v : Verdict) (l : List ℕ). lineOf n v ++ l) (editions .frame-alike ed other (take 26 s) (h .0) .judged) (alike other k (n + 1) (drop 26 s) (h .1))
+      ∙ sym (lines-next other Frames k n s)
 
-  pub listing-laws : Listing ed
-  listing-laws = record { empty = empty; example = example; turns = turns; stops = stops; line-short = line-short ed; alike = alike }
+  pub frame-listing-laws : FrameListing ed
+  frame-listing-laws = record { short = short; example = frame-example; alike = alike }

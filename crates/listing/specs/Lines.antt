@@ -1,19 +1,31 @@
--- The listing (document 01, "The listing"; document 02, a), as bytes, by the edition named. Assumes nothing.
+-- The listing (document 01, "The listing"; document 02, a) and d), as bytes, by the edition named and by what the input is made of. Assumes nothing.
 use mathlib.Core.Bool.{cond}
 use mathlib.Core.List.{List, [], _∷_, _++_}
-use Prim.Native.Nat.{ℕ, zero, suc, _+_, _*_, _/_, min}
+use Prim.Native.Nat.{ℕ, zero, suc, _+_, _-_, _*_, _/_, min}
 use lib.Dec.{eqb, leb}
 use lib.ListN.{length, take, drop}
 use Rattle.frame.specs.Read.{judgeOf}
 use Rattle.frame.specs.declared.Edition.{Edition}
 use Rattle.frame.specs.declared.Verdict.{Verdict}
 use Rattle.decimals.specs.Decimal.{decimal}
+use Rattle.listing.specs.declared.Pieces.{Pieces}
+use Rattle.listing.specs.declared.Pieces.the-variants.{Frames, MarkedFrames}
+
+-- how many bytes a piece has: a frame; or a frame and then a mark for each of its bits
+abbrev pub pieceSize : Pieces → ℕ
+pieceSize Frames = 26
+pieceSize MarkedFrames = 52
+
+-- what a piece is judged to be
+unfoldable pub verdictOf : Edition → Pieces → List ℕ → Verdict
+verdictOf ed Frames s = judgeOf ed s
+verdictOf ed MarkedFrames s = judgeOf ed (take 26 s)
 
 -- repaired places, or `-` when refused
 abbrev pub placesText : Verdict → List ℕ
 placesText v = cond (eqb (v .number) 0) (decimal (v .repaired)) (45 ∷ [])
 
--- a frame's line: its number, the refusal or 0, the places, with one space between them
+-- a piece's line: its number, the refusal or 0, the places, with one space between them
 unfoldable pub lineOf : ℕ → Verdict → List ℕ
 lineOf n v = decimal n ++ (32 ∷ (decimal (v .number) ++ (32 ∷ (placesText v ++ 10 ∷ []))))
 
@@ -21,28 +33,28 @@ lineOf n v = decimal n ++ (32 ∷ (decimal (v .number) ++ (32 ∷ (placesText v 
 unfoldable pub endLine : ℕ → List ℕ
 endLine n = 101 ∷ 110 ∷ 100 ∷ 32 ∷ (decimal n ++ 10 ∷ [])
 
--- how many pieces of 26 bytes are in n bytes; a short last piece counts
-abbrev pub pieceCount : ℕ → ℕ
-pieceCount n = (n + 25) / 26
+-- how many pieces are in n bytes; a short last piece counts
+unfoldable pub pieceCount : Pieces → ℕ → ℕ
+pieceCount p n = (n + (pieceSize p - 1)) / pieceSize p
 
 -- the lines of the first k pieces of s, numbered from n on
-unfoldable pub lines : Edition → (k n : ℕ) → List ℕ → List ℕ
-lines ed zero n s = []
-lines ed (suc k) n s = lineOf n (judgeOf ed (take 26 s)) ++ lines ed k (n + 1) (drop 26 s)
+unfoldable pub lines : Edition → Pieces → (k n : ℕ) → List ℕ → List ℕ
+lines ed p zero n s = []
+lines ed p (suc k) n s = lineOf n (verdictOf ed p (take (pieceSize p) s)) ++ lines ed p k (n + 1) (drop (pieceSize p) s)
 
--- the whole text for an input: reading stops after frame 999,999
-unfoldable pub listingOf : Edition → List ℕ → List ℕ
-listingOf ed s = lines ed (min (pieceCount (length s)) 999999) 1 s ++ endLine (min (pieceCount (length s)) 999999)
+-- the whole text for an input: reading stops after piece 999,999
+unfoldable pub listingOf : Edition → Pieces → List ℕ → List ℕ
+listingOf ed p s = lines ed p (min (pieceCount p (length s)) 999999) 1 s ++ endLine (min (pieceCount p (length s)) 999999)
 
 -- what `list` answers, for the lines of all pieces of s into a buffer of m bytes: 0 where it has not 32 bytes for each of them
-unfoldable pub listCount : Edition → (s : List ℕ) (n m : ℕ) → ℕ
-listCount ed s n m = cond (leb (32 * pieceCount (length s)) m) (length (lines ed (pieceCount (length s)) n s)) 0
+unfoldable pub listCount : Edition → Pieces → (s : List ℕ) (n m : ℕ) → ℕ
+listCount ed p s n m = cond (leb (32 * pieceCount p (length s)) m) (length (lines ed p (pieceCount p (length s)) n s)) 0
 
 -- and what it leaves in the buffer
-unfoldable pub listOf : Edition → (s : List ℕ) (n : ℕ) → List ℕ → List ℕ
-listOf ed s n out =
-    cond (leb (32 * pieceCount (length s)) (length out))
-    (lines ed (pieceCount (length s)) n s ++ drop (length (lines ed (pieceCount (length s)) n s)) out) out
+unfoldable pub listOf : Edition → Pieces → (s : List ℕ) (n : ℕ) → List ℕ → List ℕ
+listOf ed p s n out =
+    cond (leb (32 * pieceCount p (length s)) (length out))
+    (lines ed p (pieceCount p (length s)) n s ++ drop (length (lines ed p (pieceCount p (length s)) n s)) out) out
 
 -- the same of `end`, for a buffer of 32 bytes and more
 unfoldable pub endCount : (n m : ℕ) → ℕ

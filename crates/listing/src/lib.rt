@@ -1,14 +1,33 @@
-// The listing: a line of text for each frame, and a last line with the count. The rules are in specs/; `listing_lines` and
+// The listing: a line of text for each piece of the input, and a last line with the count. The rules are in specs/; `listing_lines` and
 // `listing_writer` write it.
 ghost use mathlib.Core.Path.{_≡_};
-ghost use Rattle.listing.specs.Lines.{pieceCount};
+ghost use Rattle.listing.specs.Lines.{pieceSize, pieceCount};
 
-// How many pieces of 26 bytes are in n bytes, a short last piece counted.
-pub fn piece_count(n: usize) -> usize
-    ensures { λ r. ⌜ r ≡ pieceCount n ⌝ }
+// What an input is made of.
+pub enum Pieces {
+    // document 01: frames of 26 bytes
+    Frames,
+    // document 02, d): frames, each with a mark for each of its bits behind it, 52 bytes together
+    MarkedFrames,
+}
+
+// How many bytes a piece has.
+pub fn piece_size(pieces: Pieces) -> usize
+    ensures { λ r. ⌜ r ≡ pieceSize pieces ⌝ }
 {
-    if n % 26 == 0 {
-        return n / 26;
+    match pieces {
+        Pieces::Frames => 26,
+        Pieces::MarkedFrames => 52,
     }
-    n / 26 + 1
+}
+
+// How many pieces are in n bytes, a short last piece counted.
+pub fn piece_count(pieces: Pieces, n: usize) -> usize
+    ensures { λ r. ⌜ r ≡ pieceCount pieces n ⌝ }
+{
+    let size = piece_size(pieces);
+    if n % size == 0 {
+        return n / size;
+    }
+    n / size + 1
 }
