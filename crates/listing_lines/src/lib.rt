@@ -1,4 +1,4 @@
-// The lines of the listing, stored in a buffer: a frame's line, for which room is required, since `listing_writer` has tested it
+// The lines of the listing, stored in a buffer: a piece's line, for which room is required, since `listing_writer` has tested it
 // for all lines at once, and the last line.
 ghost use mathlib.Core.Path.{_≡_};
 ghost use Prim.Native.Nat.{_+_, _≤_};
@@ -18,7 +18,7 @@ fn put_places(out: &mut [u8], at: usize, verdict: Verdict) -> usize
     decimals::put_byte(out, at, b'-')
 }
 
-// A frame's line from place at on; the place after it.
+// A piece's line from place at on; the place after it.
 pub fn put_line(out: &mut [u8], at: usize, number: u64, verdict: Verdict) -> usize
     requires { ⌜ at + 32 ≤ length (now out) ⌝ }
     ensures { λ r. ⌜ Put (now (out .entry)) at (lineOf number verdict) (now (out .exit)) r ⌝ }
