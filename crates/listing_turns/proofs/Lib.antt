@@ -1,3 +1,4 @@
+pub mod TurnSizes
 pub mod Room
 pub mod Ahead
 pub mod Promises
