@@ -1,40 +1,42 @@
-// The listing of an input, by the edition named: a line of text for each frame.
+// The listing of an input, by the edition named and by what the input is made of: a line of text for each piece.
 ghost use mathlib.Core.Path.{_≡_};
 ghost use Prim.Native.Nat.{_+_, _≤_, min};
 ghost use lib.ListN.{length};
-ghost use Rattle.listing.specs.Lines.{listCount, listOf};
+ghost use Rattle.listing.specs.Lines.{pieceSize, listCount, listOf};
 use frame::Edition;
+use listing::Pieces;
 
 // Where the piece that starts at a place ends.
-fn piece_end(start: usize, len: usize) -> usize
+fn piece_end(pieces: Pieces, start: usize, len: usize) -> usize
     requires { ⌜ start ≤ len ⌝ }
-    ensures { λ r. ⌜ r ≡ min (start + 26) len ⌝ }
+    ensures { λ r. ⌜ r ≡ min (start + pieceSize pieces) len ⌝ }
 {
-    if len - start < 26 {
+    let size = listing::piece_size(pieces);
+    if len - start < size {
         return len;
     }
-    start + 26
+    start + size
 }
 
 // The lines of all pieces of the input, numbered from the first on, at the start of the buffer; how many bytes they are. A buffer that has not 32 bytes for
 // each piece is left as it is, and the answer is 0.
-pub fn list(edition: Edition, input: &[u8], first: u32, out: &mut [u8]) -> usize
-    ensures count { λ r. ⌜ r ≡ listCount edition (now (input .entry)) first (length (now (out .entry))) ⌝ }
-    ensures text { λ _. ⌜ now (out .exit) ≡ listOf edition (now (input .entry)) first (now (out .entry)) ⌝ }
+pub fn list(edition: Edition, pieces: Pieces, input: &[u8], first: u32, out: &mut [u8]) -> usize
+    ensures count { λ r. ⌜ r ≡ listCount edition pieces (now (input .entry)) first (length (now (out .entry))) ⌝ }
+    ensures text { λ _. ⌜ now (out .exit) ≡ listOf edition pieces (now (input .entry)) first (now (out .entry)) ⌝ }
 {
-    if out.len() / 32 < listing::piece_count(input.len()) {
+    if out.len() / 32 < listing::piece_count(pieces, input.len()) {
         return 0;
     }
     let mut number = first as u64;
     let mut start = 0;
     let mut at = 0;
     while start < input.len() {
-        let end = piece_end(start, input.len());
+        let end = piece_end(pieces, start, input.len());
         at = listing_lines::put_line(
             out,
             at,
             number,
-            frame_reader::judge(edition, &input[start..end]),
+            listing_verdicts::judge_piece(edition, pieces, &input[start..end]),
         );
         start = end;
         number += 1;
