@@ -1,6 +1,7 @@
 // The listing of no frames.
 use frame::Edition;
+use listing::Pieces;
 
 fn main() {
-    listing_io::run(Edition::First);
+    listing_io::run(Edition::First, Pieces::Frames);
 }

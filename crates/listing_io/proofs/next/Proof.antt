@@ -19,10 +19,10 @@ list-piece-requires : tie.Need-list-piece-requires
 list-piece-requires c κs = search needs
 
 slice-reshare-prefix-write-all : tie.Need-slice-reshare-prefix-write-all
-slice-reshare-prefix-write-all c = omega (arith, told-ahead _ _ _ _ (c .before .before .list-piece .ensures .0))
+slice-reshare-prefix-write-all c = omega (arith, told-ahead _ _ _ _ _ (c .before .before .list-piece .ensures .0))
 
 slice-aggregate-write-all : tie.Need-slice-aggregate-write-all
-slice-aggregate-write-all c = simp length-take (omega (arith, told-ahead _ _ _ _ (c .before .before .before .list-piece .ensures .0)))
+slice-aggregate-write-all c = simp length-take (omega (arith, told-ahead _ _ _ _ _ (c .before .before .before .list-piece .ensures .0)))
 
 write-all-requires : tie.Need-write-all-requires
 write-all-requires c κs = search needs

@@ -11,10 +11,10 @@ use Rattle.listing_io.proofs.run.Statement.{statement}
 use Rattle.listing_io.proofs.run.Tie as tie
 
 abbrev Inv-loop : tie.InvT-loop
-Inv-loop edition input₀ out₀ turn₀ input out turn = (length input ≡ 65536) × (length out ≡ 80672) × (turn .wanted ≤ 65520)
+Inv-loop edition pieces input₀ out₀ turn₀ input out turn = (length input ≡ 65536) × (length out ≡ 80672) × (turn .wanted ≤ 65520)
 
 abbrev μ-loop : tie.MeasureT-loop
-μ-loop edition input₀ out₀ turn₀ input out turn = 999999 - turn .listed + min (turn .wanted) 1
+μ-loop edition pieces input₀ out₀ turn₀ input out turn = 999999 - turn .listed + min (turn .wanted) 1
 
 large-buffer-requires : tie.Need-large-buffer-requires Inv-loop μ-loop
 large-buffer-requires c κs = search needs
@@ -39,11 +39,11 @@ next-requires c κs = search needs
 
 loop-less : tie.Need-loop-less Inv-loop μ-loop
 loop-less c =
-    let ahead = told-ahead _ _ _ _ (c .before .before .next .ensures .told) in
+    let ahead = told-ahead _ _ _ _ _ (c .before .before .next .ensures .told) in
     ⊎-elim (λ z. omega arith) (λ w. omega arith) (ahead .more)
 
 loop-again : tie.Need-loop-again Inv-loop μ-loop
-loop-again c = let ahead = told-ahead _ _ _ _ (c .before .before .next .ensures .told) in search needs
+loop-again c = let ahead = told-ahead _ _ _ _ _ (c .before .before .next .ensures .told) in search needs
 
 returns : tie.Need-returns Inv-loop μ-loop
 returns c = search needs
