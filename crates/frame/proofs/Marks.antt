@@ -24,7 +24,7 @@ use Rattle.frame.specs.Promises.{SameOutside, SameAnswers, MarkedFrames}
 use Rattle.frame.specs.declared.Edition.{Edition}
 
 -- a marking under which a frame is not whole gives refusal 1
-refused-size : (ed : Edition) (q : Marking) (f : List ℕ) → whole q f ≡ false → refusalBy ed q f ≡ 1
+pub refused-size : (ed : Edition) (q : Marking) (f : List ℕ) → whole q f ≡ false → refusalBy ed q f ≡ 1
 unfolding refusalBy
 refused-size ed q f e = refusal-here 1 _ (ap not e)
 

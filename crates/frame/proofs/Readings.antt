@@ -3,7 +3,7 @@ use mathlib.Core.Path.{_≡_, refl, sym, ap, ap₂, _∙_, subst}
 use mathlib.Core.Bool.{Bool, true, false, true≢false, not, and-eq-true-iff}
 use mathlib.Core.Logic.{_≢_}
 use mathlib.Core.List.{List, _∷_, _++_}
-use Prim.Native.Nat.{ℕ, _<_}
+use Prim.Native.Nat.{ℕ, _≤_, _<_}
 use native.Mathlib.Omega.{arith}
 use lib.Dec.{eqb}
 use lib.ListN.{length, take, drop}
@@ -21,7 +21,7 @@ use Rattle.crc.proofs.Crc.{crc10-bits}
 use Rattle.gf2.specs.Polynomial.{add}
 use Rattle.dsc.specs.Code.{CodeWord, parityOf}
 use Rattle.dsc.specs.Repair.{protected, wordBytes, repairedTo, numberOf}
-use Rattle.dsc.specs.Marks.{Marking, whole, repairBy, hitsBy, FewBy}
+use Rattle.dsc.specs.Marks.{Marking, unmarked, marked, whole, repairBy, hitsBy, FewBy}
 use Rattle.dsc.specs.declared.Answer.{Answer}
 use Rattle.dsc.proofs.Word.{length-word, parity-only}
 use Rattle.dsc.proofs.Answers.{length-wordBytes, protected-wordBytes}
@@ -54,6 +54,11 @@ update-again CancelPage u (cancel q k) d e = refl
 update-again SafetyDetails u safety d e = refl
 update-again NoInformation u silent d e = sym e
 update-again NoInformation u undefined d e = absurd (true≢false d)
+
+-- eight places at most are repaired, with marks too
+pub few-eight : (q : Marking) (n : ℕ) → FewBy q n → n ≤ 8
+few-eight unmarked n h = h
+few-eight (marked m) n h = omega arith
 
 -- ---- accepted frames
 

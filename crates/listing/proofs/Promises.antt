@@ -1,21 +1,24 @@
 -- The promises hold. Assumes nothing.
 use mathlib.Core.Path.{_≡_, refl, sym, ap, ap₂, _∙_}
+use mathlib.Core.Bool.{false}
 use mathlib.Core.List.{List, [], _∷_, _++_, append-assoc, append-nil}
 use Prim.Native.Nat.{ℕ, zero, suc, _+_, _*_, _<_, min}
 use native.Mathlib.Omega.{arith}
 use lib.ListN.{length, take, drop, length-append, length-drop}
 use lib.Seq.{take-all, take-append-le, drop-append-le, take-at, drop-at}
 use borrow.Author.Tests.{ne-eqb}
-use Rattle.bits.specs.Refusal.{firstRefusal}
-use Rattle.frame.specs.Read.{judgeOf, frameRefusal, placesIn}
+use Rattle.dsc.specs.Marks.{whole}
+use Rattle.dsc.proofs.MarkedAnswers.{marks-short}
+use Rattle.frame.specs.Read.{judgeBy, placesBy}
 use Rattle.frame.specs.declared.Edition.{Edition}
 use Rattle.frame.specs.declared.Verdict.{Verdict}
+use Rattle.frame.proofs.Marks.{refused-size}
 use Rattle.frame.proofs.Editions.{editions}
 use Rattle.decimals.specs.Decimal.{decimal, digits}
-use Rattle.listing.specs.Lines.{pieceSize, verdictOf, lineOf, endLine, pieceCount, lines, listingOf}
-use Rattle.listing.specs.Promises.{Listing, NoneSafety, FrameListing}
+use Rattle.listing.specs.Lines.{pieceSize, frameIn, markingIn, verdictOf, lineOf, endLine, pieceCount, lines, listingOf}
+use Rattle.listing.specs.Promises.{Listing, NoneSafety}
 use Rattle.listing.specs.declared.Pieces.{Pieces}
-use Rattle.listing.specs.declared.Pieces.the-variants.{Frames}
+use Rattle.listing.specs.declared.Pieces.the-variants.{Frames, MarkedFrames}
 use Rattle.listing.proofs.Counts.{count-none, count-least, count-two, whole-next}
 use Rattle.listing.proofs.NextLine.{lines-none, lines-next}
 use Rattle.listing.proofs.LineLengths.{line-short}
@@ -36,6 +39,11 @@ refused-line v e = rw e
 two-end : endLine 2 ≡ 101 ∷ 110 ∷ 100 ∷ 32 ∷ 50 ∷ 10 ∷ []
 unfolding endLine digits
 two-end = refl
+
+-- a short piece lacks bytes of its frame, or of its marks
+by-size : (p : Pieces) (s : List ℕ) → length s < pieceSize p → whole (markingIn p s) (frameIn p s) ≡ false
+by-size Frames s h = ne-eqb (length s) 26 (λ e. omega arith)
+by-size MarkedFrames s h = marks-short (drop 26 s) (take 26 s) (λ e. omega (arith, length-drop 26 s))
 
 module _ (ed : Edition) (p : Pieces) where
   empty : listingOf ed p [] ≡ 101 ∷ 110 ∷ 100 ∷ 32 ∷ 48 ∷ 10 ∷ []
@@ -96,43 +104,30 @@ module _ (ed : Edition) (p : Pieces) where
       rw (c, lines-next ed p 1 1 (f ++ x), lines-next ed p 0 2 (drop z (f ++ x)), take-at f x z h, drop-at f x z h, take-all z x (omega arith), lines-none ed p 3 (drop z x))
       (simp append-assoc)
 
+  short : (s : List ℕ) → length s < pieceSize p → verdictOf ed p s ≡ record { number = 1; repaired = 0 }
+  unfolding verdictOf judgeBy placesBy
+  short s h = rw (refused-size ed (markingIn p s) (frameIn p s) (by-size p s h))
+
   example : (f x : List ℕ) (t : ℕ) → length f ≡ pieceSize p → verdictOf ed p f ≡ record { number = 0; repaired = t }
-      → 0 < length x → length x < pieceSize p → verdictOf ed p x .number ≡ 1
+      → 0 < length x → length x < pieceSize p
       → listingOf ed p (f ++ x)
       ≡ (49 ∷ 32 ∷ 48 ∷ 32 ∷ (decimal t ++ 10 ∷ [])) ++ 50 ∷ 32 ∷ 49 ∷ 32 ∷ 45 ∷ 10 ∷ 101 ∷ 110 ∷ 100 ∷ 32 ∷ 50 ∷ 10 ∷ []
-  example f x t h e a b r =
+  example f x t h e a b =
       two-pieces f x h a b
-      ∙ ap₂ _++_ (ap (lineOf 1) e ∙ accepted-line t) (ap₂ _++_ (refused-line (verdictOf ed p x) r) two-end)
-
-  pub listing-laws : Listing ed p
-  listing-laws = record { empty = empty; example = example; turns = turns; stops = stops; line-short = line-short ed p }
-
--- ---- of frames
-
-module _ (ed : Edition) where
-  short : (s : List ℕ) → length s < pieceSize Frames → verdictOf ed Frames s ≡ record { number = 1; repaired = 0 }
-  unfolding verdictOf judgeOf placesIn frameRefusal firstRefusal
-  short s h = rw (ne-eqb (length s) 26 (λ e. omega arith))
-
-  accepted : (f : List ℕ) → frameRefusal ed f ≡ 0 → placesIn ed f ≡ 0 → verdictOf ed Frames f ≡ record { number = 0; repaired = 0 }
-  unfolding verdictOf judgeOf
-  accepted f a b = ap₂ (λ (n m : ℕ). record { number = n; repaired = m }) a b
-
-  frame-example : (f x : List ℕ) → length f ≡ 26 → frameRefusal ed f ≡ 0 → placesIn ed f ≡ 0 → length x ≡ 5
-      → listingOf ed Frames (f ++ x) ≡ 49 ∷ 32 ∷ 48 ∷ 32 ∷ 48 ∷ 10 ∷ 50 ∷ 32 ∷ 49 ∷ 32 ∷ 45 ∷ 10 ∷ 101 ∷ 110 ∷ 100 ∷ 32 ∷ 50 ∷ 10 ∷ []
-  unfolding digits
-  frame-example f x h a b k =
-      example ed Frames f x 0 h (accepted f a b) (omega arith) (omega arith) (ap (λ (v : Verdict). v .number) (short x (omega arith)))
+      ∙ ap₂ _++_ (ap (lineOf 1) e ∙ accepted-line t) (ap₂ _++_ (refused-line (verdictOf ed p x) (ap (λ (v : Verdict). v .number) (short x b))) two-end)
 
   -- ---- another edition
 
-  alike : (other : Edition) (k n : ℕ) (s : List ℕ) → NoneSafety k s → lines ed Frames k n s ≡ lines other Frames k n s
+  alike : (other : Edition) (k n : ℕ) (s : List ℕ) → NoneSafety p k s → lines ed p k n s ≡ lines other p k n s
   unfolding NoneSafety verdictOf
-  alike other zero n s h = lines-none ed Frames n s ∙ sym (lines-none other Frames n s)
+  alike other zero n s h = lines-none ed p n s ∙ sym (lines-none other p n s)
   alike other (suc k) n s h =
-      lines-next ed Frames k n s
-      ∙ ap₂ (λ (v : Verdict) (l : List ℕ). lineOf n v ++ l) (editions .frame-alike ed other (take 26 s) (h .0) .judged) (alike other k (n + 1) (drop 26 s) (h .1))
-      ∙ sym (lines-next other Frames k n s)
+      let f = take (pieceSize p) s in
+      lines-next ed p k n s
+      ∙ ap₂ (λ (v : Verdict) (l : List ℕ). lineOf n v ++ l) (editions .frame-alike ed other (markingIn p f) (frameIn p f) (h .0) .judged)
+      (alike other k (n + 1) (drop (pieceSize p) s) (h .1))
+      ∙ sym (lines-next other p k n s)
 
-  pub frame-listing-laws : FrameListing ed
-  frame-listing-laws = record { short = short; example = frame-example; alike = alike }
+  pub listing-laws : Listing ed p
+  listing-laws =
+      record { empty = empty; short = short; example = example; turns = turns; stops = stops; line-short = line-short ed p; alike = alike }

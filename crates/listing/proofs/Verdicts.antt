@@ -5,42 +5,38 @@ use mathlib.Core.List.{List}
 use Prim.Native.Nat.{ℕ, _≤_, _<_}
 use native.Mathlib.Omega.{arith}
 use lib.Dec.{eqb}
-use lib.ListN.{take}
 use borrow.Author.Tests.{eqb-true}
 use Rattle.bits.proofs.Refusal.{refusal-most}
-use Rattle.frame.specs.Read.{frameTests, frameRefusal, placesIn, judgeOf}
+use Rattle.dsc.specs.Marks.{Marking}
+use Rattle.frame.specs.Read.{frameTests, refusalBy, placesBy, judgeBy}
 use Rattle.frame.specs.declared.Edition.{Edition}
 use Rattle.frame.specs.declared.Verdict.{Verdict}
-use Rattle.frame.proofs.Readings.{accepted-judged, judged-places, judged-dist}
-use Rattle.listing.specs.Lines.{verdictOf}
+use Rattle.frame.proofs.Readings.{few-eight, accepted-judged, judged-places}
+use Rattle.listing.specs.Lines.{frameIn, markingIn, verdictOf}
 use Rattle.listing.specs.declared.Pieces.{Pieces}
-use Rattle.listing.specs.declared.Pieces.the-variants.{Frames, MarkedFrames}
 
 -- a verdict of numbers that fit a byte
 abbrev pub Small : Verdict → Type 0
 Small v = (v .number < 256) × (v .repaired < 256)
 
-module _ (ed : Edition) where
-  pub refusal-small : (f : List ℕ) → frameRefusal ed f ≤ 9
-  unfolding frameRefusal
-  refusal-small f = refusal-most 9 (frameTests ed f) refl
+module _ (ed : Edition) (q : Marking) (f : List ℕ) where
+  refusal-small : refusalBy ed q f ≤ 9
+  unfolding refusalBy
+  refusal-small = refusal-most 9 (frameTests ed q f) refl
 
-  pub places-small : (f : List ℕ) → placesIn ed f < 10
-  unfolding placesIn
-  places-small f = go (eqb (frameRefusal ed f) 0) refl
+  places-small : placesBy ed q f ≤ 8
+  unfolding placesBy
+  places-small = go (eqb (refusalBy ed q f) 0) refl
     where
-      go : (t : Bool) → eqb (frameRefusal ed f) 0 ≡ t → placesIn ed f < 10
-      go true q =
-          let j = accepted-judged ed f (eqb-true (frameRefusal ed f) 0 q) in
-          omega (arith, judged-places ed f j, judged-dist ed f j .1)
-      go false q = rw q (omega arith)
+      go : (t : Bool) → eqb (refusalBy ed q f) 0 ≡ t → placesBy ed q f ≤ 8
+      go true e =
+          let j = accepted-judged ed q f (eqb-true (refusalBy ed q f) 0 e) in
+          omega (arith, judged-places ed q f j, few-eight q (j .places) (j .few))
+      go false e = rw e (omega arith)
 
-  judged-small : (f : List ℕ) → Small (judgeOf ed f)
-  unfolding judgeOf
-  judged-small f = (omega (arith, refusal-small f), omega (arith, places-small f))
-
-  -- the only law that looks into the verdict of each kind of piece
-  pub verdict-small : (p : Pieces) (s : List ℕ) → Small (verdictOf ed p s)
-  unfolding verdictOf
-  verdict-small Frames s = judged-small s
-  verdict-small MarkedFrames s = judged-small (take 26 s)
+pub verdict-small : (ed : Edition) (p : Pieces) (s : List ℕ) → Small (verdictOf ed p s)
+unfolding verdictOf judgeBy
+verdict-small ed p s =
+    let q = markingIn p s in
+    let f = frameIn p s in
+    (omega (arith, refusal-small ed q f), omega (arith, places-small ed q f))

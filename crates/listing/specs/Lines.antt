@@ -4,7 +4,8 @@ use mathlib.Core.List.{List, [], _∷_, _++_}
 use Prim.Native.Nat.{ℕ, zero, suc, _+_, _-_, _*_, _/_, min}
 use lib.Dec.{eqb, leb}
 use lib.ListN.{length, take, drop}
-use Rattle.frame.specs.Read.{judgeOf}
+use Rattle.dsc.specs.Marks.{Marking, unmarked, marked}
+use Rattle.frame.specs.Read.{judgeBy}
 use Rattle.frame.specs.declared.Edition.{Edition}
 use Rattle.frame.specs.declared.Verdict.{Verdict}
 use Rattle.decimals.specs.Decimal.{decimal}
@@ -16,10 +17,19 @@ abbrev pub pieceSize : Pieces → ℕ
 pieceSize Frames = 26
 pieceSize MarkedFrames = 52
 
+-- the frame of a piece
+abbrev pub frameIn : Pieces → List ℕ → List ℕ
+frameIn Frames s = s
+frameIn MarkedFrames s = take 26 s
+
+-- and its marks, if it comes with any
+abbrev pub markingIn : Pieces → List ℕ → Marking
+markingIn Frames s = unmarked
+markingIn MarkedFrames s = marked (drop 26 s)
+
 -- what a piece is judged to be
 unfoldable pub verdictOf : Edition → Pieces → List ℕ → Verdict
-verdictOf ed Frames s = judgeOf ed s
-verdictOf ed MarkedFrames s = judgeOf ed (take 26 s)
+verdictOf ed p s = judgeBy ed (markingIn p s) (frameIn p s)
 
 -- repaired places, or `-` when refused
 abbrev pub placesText : Verdict → List ℕ

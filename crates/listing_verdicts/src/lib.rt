@@ -13,7 +13,7 @@ pub fn judge_piece(edition: Edition, pieces: Pieces, piece: &[u8]) -> Verdict
         Pieces::Frames => frame_reader::judge(edition, piece),
         Pieces::MarkedFrames => {
             let cut = numbers::smaller(26, piece.len());
-            frame_reader::judge(edition, &piece[..cut])
+            frame_marked_reader::judge_marked(edition, &piece[..cut], &piece[cut..])
         }
     }
 }
