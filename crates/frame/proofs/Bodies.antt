@@ -14,13 +14,14 @@ use Rattle.bits.specs.Layout.{unpack, sum, Fit, fitb, Layout, layoutb}
 use Rattle.bits.specs.Segment.{widths, freeWidths, free, withFixed, packSegments, unpackSegments}
 use Rattle.bits.proofs.Layouts.{unpack-pack, length-fit, fitb-fit, fit-fitb, layoutb-layout}
 use Rattle.bits.proofs.Segment.{fit-withFixed}
+use Rattle.bits.specs.Refusal.{testNumbers}
 use Rattle.bits.proofs.Refusal.{refusal-none, none-refusal}
 use Rattle.frame.specs.Identification.{classOf, updateOf, isUndefined}
 use Rattle.frame.specs.Entry.{Entry, held, ones, segmentsOf, indicesOf}
 use Rattle.frame.specs.Body.{bodyOf, row, layout, indices, ownUpdate}
 use Rattle.frame.specs.Span.{spanOf, between}
 use Rattle.frame.specs.Fields.{fieldCount, fields, noOrigin, recordFrom, withOrigin, gather, scatter, beforeDetails, inFields, fieldWidths, bodyValues, recordBody, tooWide, overLimit, recordOf}
-use Rattle.frame.specs.Write.{recordRefusal, Legal}
+use Rattle.frame.specs.Write.{recordTests, recordRefusal, Legal}
 use Rattle.frame.specs.declared.Edition.{Edition}
 use Rattle.frame.specs.declared.Class.{Class}
 use Rattle.frame.specs.declared.Class.the-variants.{Warning, SafetyInformation, Silent, Undefined}
@@ -58,6 +59,10 @@ module _ (ed : Edition) where
     pub known : isUndefined (classOf ed (r .identification)) ≡ false
     pub fit : Fit (fieldWidths (recordBody ed r)) (fields r)
     pub limits : overLimit (recordBody ed r) (r .latitude) (r .longitude) ≡ false
+
+  -- the order of a record's tests; it stands before the laws that go through them, so that another order is refused here
+  pub record-order : (r : Record) → testNumbers (recordTests ed r) ≡ 6 ∷ 10 ∷ 9 ∷ []
+  record-order r = refl
 
   refusals : Record → List (ℕ × Bool)
   refusals r =

@@ -10,7 +10,7 @@ use Rattle.bits.specs.Bits.{value, bitsOf, bits}
 use Rattle.bits.specs.Field.{fieldAt}
 use Rattle.bits.specs.Layout.{Fit}
 use Rattle.bits.specs.Segment.{packSegments, unpackSegments, fixedBitsHold}
-use Rattle.bits.specs.Refusal.{firstRefusal, NoneGiven}
+use Rattle.bits.specs.Refusal.{firstRefusal, testNumbers, NoneGiven}
 use Rattle.bits.proofs.Bits.{length-bitsOf, length-bytes, bits-bytes, value-bitsOf-fit, value-zeros}
 use Rattle.bits.proofs.Segment.{length-packSegments, unpack-packSegments, fixed-packSegments}
 use Rattle.bits.proofs.Refusal.{refusal-later, refusal-none, none-refusal}
@@ -72,6 +72,10 @@ pub record Outside (r : Record) (n : ℕ) (f : List ℕ) : Type 0 where
   pub reference : fieldAt f 0 1 ≡ r .reference
   pub sync : syncIn f ≡ Fits (r .pattern) n
   pub filler : fieldAt f 204 4 ≡ 0
+
+-- the order of the tests after the repair; it stands before the laws that go through them, so that another order is refused here
+pub after-order : (ed : Edition) (c : List ℕ) → testNumbers (afterRepair ed c) ≡ 5 ∷ 6 ∷ 7 ∷ 8 ∷ 9 ∷ []
+after-order ed c = refl
 
 -- a part that was not hit
 pub not-hit : (limit n : ℕ) (u : List Bool) → HitPart weight (_≤ limit) n (zeros n) u u

@@ -2,6 +2,7 @@ pub mod Parts
 pub mod Indices
 pub mod Identifications
 pub mod Bodies
+pub mod Written
 pub mod Origins
 pub mod Frames
 pub mod Areas

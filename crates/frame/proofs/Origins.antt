@@ -1,13 +1,18 @@
 -- Where a record came from is not looked at: what is defined of a record by its fields is the same from any origin. Assumes nothing.
 use mathlib.Core.Path.{_≡_, refl, sym, ap, _∙_}
+use mathlib.Core.Bool.{Bool, true, false}
 use mathlib.Core.List.{List}
 use Prim.Native.Nat.{ℕ}
+use lib.Dec.{eqb}
+use lib.ListN.{length}
+use borrow.Author.Tests.{eqb-true, eqb-false}
 use Rattle.frame.specs.Fields.{fields, recordFrom, withOrigin, SameFields, bodyValues}
 use Rattle.frame.specs.Area.{warnedIn}
 use Rattle.frame.specs.Write.{Legal, announced, messageBits, recordRefusal, frameOf, writeNumber, writeOf}
 use Rattle.frame.specs.declared.Edition.{Edition}
 use Rattle.frame.specs.declared.Origin.{Origin}
 use Rattle.frame.specs.declared.Record.{Record}
+use Rattle.frame.proofs.Written.{left, unchanged}
 
 -- the fields are the record's own
 pub from-fields : (o : Origin) (r : Record) → fields (withOrigin o r) ≡ fields r
@@ -59,8 +64,15 @@ module _ (ed : Edition) where
   from-number n o r = rw (from-refusal o r)
 
   from-written : (b : List ℕ) (o : Origin) (r : Record) → writeOf ed (withOrigin o r) b ≡ writeOf ed r b
-  unfolding writeOf writeNumber
-  from-written b o r = rw (from-refusal o r, from-frame o r)
+  from-written b o r = go (eqb n 0) refl
+    where
+      n : ℕ
+      n = writeNumber ed r (length b)
+
+      go : (t : Bool) → eqb n 0 ≡ t → writeOf ed (withOrigin o r) b ≡ writeOf ed r b
+      go true e = let z = eqb-true n 0 e in left ed (withOrigin o r) b (from-number (length b) o r ∙ z) ∙ from-frame o r ∙ sym (left ed r b z)
+      go false e =
+          let z = eqb-false n 0 e in unchanged ed (withOrigin o r) b (λ y. z (sym (from-number (length b) o r) ∙ y)) ∙ sym (unchanged ed r b z)
 
   pub same-legal : (r s : Record) → SameFields r s → recordRefusal ed r ≡ recordRefusal ed s
   same-legal = same-by (recordRefusal ed) from-refusal

@@ -42,6 +42,7 @@ use Rattle.frame.specs.declared.Reading.{Reading}
 use Rattle.frame.specs.declared.Reading.the-variants.{Accepted, Refused}
 use Rattle.frame.proofs.Parts.{part-bits, length-part, frame-bits, filler-whole, frame-split, frame-parts}
 use Rattle.frame.proofs.Bodies.{layout-sum, legal-sound, taken}
+use Rattle.frame.proofs.Written.{legal-exactly, written, unchanged}
 use Rattle.frame.proofs.Origins.{from-fields, from-origin, from-again, from-legal, from-frame, same-whole, same-legal, same-written, same-warned}
 use Rattle.frame.proofs.Frames.{wordOf, record-word, length-frame, parts-frame, found-record, found-accepted, Outside, outside, own-outside}
 use Rattle.frame.proofs.Areas.{warned-on-air}
@@ -397,22 +398,6 @@ module _ (ed : Edition) where
       ∙ sym (frame-split f lf) in
       written-again ed unmarked t f r 0 e ∙ bits-inj g f (subst Bytes (written-again ed unmarked t f r 0 e) (bytes-frame r)) h (m .size ∙ sym lf) b
 
-  -- ---- what is written
-
-  written : (r : Record) (s : List ℕ) → Legal ed r → length s ≡ 26 → writeOf ed r s ≡ frameOf ed r
-  unfolding writeOf writeNumber
-  written r s l h =
-      let none : writeNumber ed r (length s) ≡ 0 = ap (writeNumber ed r) h ∙ l in
-      ap (λ n. cond (eqb n 0) (frameOf ed r) s) none
-
-  unchanged : (r : Record) (s : List ℕ) → writeNumber ed r (length s) ≢ 0 → writeOf ed r s ≡ s
-  unfolding writeOf
-  unchanged r s h = rw (ne-eqb (writeNumber ed r (length s)) 0 h)
-
-  legal-exactly : (r : Record) → writeNumber ed r 26 ≡ recordRefusal ed r
-  unfolding writeNumber
-  legal-exactly r = refl
-
   pub demand2 : Demand2 ed
   demand2 =
       record {
@@ -434,9 +419,9 @@ module _ (ed : Edition) where
         judged = judged ed;
         judged-accepted = verdict ed;
         judged-refused = judged-refused ed;
-        legal-exactly = legal-exactly;
-        written = written;
-        unchanged = unchanged;
+        legal-exactly = legal-exactly ed;
+        written = written ed;
+        unchanged = unchanged ed;
       }
 
   pub areas-on-air : AreasOnAir ed

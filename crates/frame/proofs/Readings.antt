@@ -2,7 +2,7 @@
 use mathlib.Core.Path.{_≡_, refl, sym, ap, ap₂, _∙_, subst}
 use mathlib.Core.Bool.{Bool, true, false, true≢false, not, and-eq-true-iff}
 use mathlib.Core.Logic.{_≢_}
-use mathlib.Core.List.{List, _∷_, _++_}
+use mathlib.Core.List.{List, [], _∷_, _++_}
 use Prim.Native.Nat.{ℕ, _≤_, _<_}
 use native.Mathlib.Omega.{arith}
 use lib.Dec.{eqb}
@@ -12,7 +12,7 @@ use Rattle.bits.specs.Bits.{value, bitsOf, bits}
 use Rattle.bits.specs.Field.{fieldAt}
 use Rattle.bits.specs.Layout.{Fit}
 use Rattle.bits.specs.Segment.{packSegments}
-use Rattle.bits.specs.Refusal.{firstRefusal, NoneGiven}
+use Rattle.bits.specs.Refusal.{firstRefusal, testNumbers, NoneGiven}
 use Rattle.bits.proofs.Bits.{value-take-lt}
 use Rattle.bits.proofs.Segment.{pack-unpackSegments, fit-unpackSegments}
 use Rattle.bits.proofs.Refusal.{refusal-later, refusal-none, none-refusal}
@@ -32,7 +32,7 @@ use Rattle.sync_pattern.proofs.Patterns.{fitting}
 use Rattle.frame.specs.Identification.{classOf, startEndOf, updateOf, isUndefined}
 use Rattle.frame.specs.Body.{bodyOf, layout, ownUpdate}
 use Rattle.frame.specs.Fields.{fields, withOrigin, fieldWidths, bodyValues, recordBody, overLimit}
-use Rattle.frame.specs.Read.{identificationIn, classIn, bodyIn, detailsIn, valuesIn, recordIn, syncIn, beforeRepair, afterRepair, refusalBy, placesBy, originIn, contentsIn, readBy}
+use Rattle.frame.specs.Read.{identificationIn, classIn, bodyIn, detailsIn, valuesIn, recordIn, syncIn, beforeRepair, afterRepair, frameTests, refusalBy, placesBy, originIn, contentsIn, readBy}
 use Rattle.frame.specs.Write.{Legal, announced, messageBits}
 use Rattle.frame.specs.declared.Edition.{Edition}
 use Rattle.frame.specs.declared.Class.{Class}
@@ -44,7 +44,7 @@ use Rattle.frame.specs.declared.Record.{Record}
 use Rattle.frame.specs.declared.Reading.the-variants.{Accepted}
 use Rattle.frame.proofs.Parts.{regroup, inner-part, part-split, part-bits, length-part, frame-bits, word-split}
 use Rattle.frame.proofs.Bodies.{layout-sum, Chosen, area, place, cancel, safety, silent, undefined, chosen, sound-legal, record-values, record-fit, record-body, taken}
-use Rattle.frame.proofs.Frames.{length-message, wordOf}
+use Rattle.frame.proofs.Frames.{after-order, length-message, wordOf}
 
 -- the update, as the frame has it
 update-again : (b : Body) (u : ℕ) {c : Class} {page kind : ℕ} → Chosen c page kind b → isUndefined c ≡ false → u ≡ updateOf c u → updateOf c (ownUpdate b u) ≡ u
@@ -78,6 +78,10 @@ module _ (ed : Edition) (q : Marking) where
     pub few : FewBy q places
     pub repaired : repairBy q f ≡ repairedTo word places
     pub tests : NoneGiven (afterRepair ed (wordBytes word))
+
+  -- the order of all tests
+  pub frame-order : (f : List ℕ) → testNumbers (frameTests ed q f) ≡ 1 ∷ 2 ∷ 3 ∷ 4 ∷ 5 ∷ 6 ∷ 7 ∷ 8 ∷ 9 ∷ []
+  frame-order f = ap (λ (l : List ℕ). 1 ∷ 2 ∷ 3 ∷ 4 ∷ l) (after-order ed (repairBy q f .word))
 
   refusals : List ℕ → List (ℕ × Bool)
   refusals f = beforeRepair q f ++ (4, not (eqb (numberOf (repairBy q f)) 0)) ∷ afterRepair ed (repairBy q f .word)

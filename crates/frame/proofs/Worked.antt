@@ -34,9 +34,9 @@ use Rattle.frame.specs.declared.Body.the-variants.{PlacePage}
 use Rattle.frame.specs.declared.Tuner.{Tuner}
 use Rattle.frame.specs.declared.Record.{Record}
 use Rattle.frame.specs.declared.Reading.the-variants.{Refused}
-use Rattle.frame.proofs.Bodies.{Chosen, place, chosen, sound-legal}
+use Rattle.frame.proofs.Bodies.{Chosen, place, chosen, record-order, sound-legal}
 use Rattle.frame.proofs.Frames.{wordOf, length-frame, found-refusal, own-outside}
-use Rattle.frame.proofs.Readings.{repaired-refusal}
+use Rattle.frame.proofs.Readings.{frame-order, repaired-refusal}
 use Rattle.frame.proofs.Promises.{comes-back, repair-own, refused-read}
 
 place-known : {c : Class} {p k : ℕ} → Chosen c p k PlacePage → isUndefined c ≡ false
@@ -114,8 +114,8 @@ worked =
       example8-not-read = not-read;
       example8-some = some;
       example10 = zero-bytes;
-      frame-order = λ ed q f. refl;
-      record-order = λ ed r. refl;
+      frame-order = frame-order;
+      record-order = record-order;
       all-warned = λ k h. T-true (warnedIn (areaRecord 0) k) (below-at 56 (λ k. warnedIn (areaRecord 0) k) all-test k h);
       tokyo-warned = tokyo;
       others-not = others-not;
