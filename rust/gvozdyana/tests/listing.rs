@@ -1,17 +1,23 @@
-//! The listing programs, one for each edition, fed through a pipe, against the plain version.
+//! The listing programs, one for each edition and one for marked frames, fed through a pipe, against the plain version.
 use reference::frame::{Edition, EDITIONS};
-use reference::listing::{line, listing, MOST};
+use reference::listing::{line, listing, marked_line, marked_listing, MARKED_BYTES, MOST};
 use reference::FRAME_BYTES;
 use std::io::Write;
 use std::path::PathBuf;
 use std::process::{Command, Stdio};
 use std::thread;
 
-fn program(edition: Edition) -> PathBuf {
-    let name = match edition {
+/// The listing program of an edition.
+fn of_edition(edition: Edition) -> &'static str {
+    match edition {
         Edition::First => "list_frames",
         Edition::AreaSafety => "list_frames_safety",
-    };
+    }
+}
+
+const MARKED: &str = "list_marked_frames";
+
+fn program(name: &str) -> PathBuf {
     let folder = PathBuf::from(env!("CARGO_MANIFEST_DIR")).join("../../target/bin");
     let path = folder.join(name);
     let built = format!("{} is built by rt check {name}", path.display());
@@ -21,7 +27,12 @@ fn program(edition: Edition) -> PathBuf {
 
 /// What the edition's program writes when these pieces come through a pipe, one write each.
 fn listed(edition: Edition, pieces: Vec<Vec<u8>>) -> Vec<u8> {
-    let mut child = Command::new(program(edition))
+    written(of_edition(edition), pieces)
+}
+
+/// What a program writes then.
+fn written(name: &str, pieces: Vec<Vec<u8>>) -> Vec<u8> {
+    let mut child = Command::new(program(name))
         .stdin(Stdio::piped())
         .stdout(Stdio::piped())
         .spawn()
@@ -90,6 +101,64 @@ fn it_stops_after_frame_999_999() {
             let given = lines.next().expect("a line");
             if number == 1 || number == count {
                 assert_eq!(format!("{given}\n"), line(edition, number, &clean()));
+            } else {
+                assert_eq!(given, format!("{number} 0 0"));
+            }
+        }
+        assert_eq!(lines.next(), Some(format!("end {count}").as_str()));
+        assert_eq!(lines.next(), None);
+    }
+}
+
+/// A clean frame with no bit marked.
+fn clean_marked() -> Vec<u8> {
+    [clean(), vec![0; FRAME_BYTES]].concat()
+}
+
+#[test]
+fn marked_pieces_of_a_pipe_are_put_together() {
+    let input = [clean_marked(), clean()].concat();
+    for size in [1, 5, 26, 51, 52, 78] {
+        let pieces = input.chunks(size).map(|piece| piece.to_vec()).collect();
+        let lines = written(MARKED, pieces);
+        assert_eq!(lines, b"1 0 0\n2 1 -\nend 2\n", "pieces of {size}");
+    }
+    assert_eq!(written(MARKED, vec![]), b"end 0\n");
+}
+
+/// Every sample that is a whole piece, random ones, noise, and a last piece of each length that is short.
+#[test]
+fn marked_frames_of_all_sorts() {
+    let mut random = samples::Random::new(12);
+    let mut samples = samples::marked::systematic(&mut random);
+    samples.extend((0..3000).map(|_| samples::marked::marked(&mut random)));
+    let pieces = samples.iter().filter_map(|sample| sample.piece());
+    let mut input = pieces.collect::<Vec<_>>().concat();
+    input.extend(random.bytes(MARKED_BYTES * 200));
+    for last in 0..MARKED_BYTES {
+        let input = [input.clone(), random.bytes(last)].concat();
+        // all of it once, and then its end alone
+        let from = if last == 0 {
+            0
+        } else {
+            input.len() / MARKED_BYTES * MARKED_BYTES
+        };
+        let input = input[from..].to_vec();
+        assert_eq!(written(MARKED, vec![input.clone()]), marked_listing(&input));
+    }
+}
+
+#[test]
+fn it_stops_after_marked_frame_999_999() {
+    for more in [0, 1, 2] {
+        let output = written(MARKED, vec![clean_marked().repeat(1000); 999 + more]);
+        let count = (1000 * (999 + more)).min(MOST);
+        let text = String::from_utf8(output).expect("text");
+        let mut lines = text.lines();
+        for number in 1..=count {
+            let given = lines.next().expect("a line");
+            if number == 1 || number == count {
+                assert_eq!(format!("{given}\n"), marked_line(number, &clean_marked()));
             } else {
                 assert_eq!(given, format!("{number} 0 0"));
             }
