@@ -13,8 +13,9 @@ use Rattle.bits.specs.Bits.{digit, odd, value, bitsOf, bits, bytes}
 use Rattle.bits.proofs.Bits.{length-bits, length-bytes, bits-bytes}
 use Rattle.gf2.specs.Polynomial.{zeros}
 use Rattle.dsc.specs.Code.{CodeWord, dist}
-use Rattle.dsc.specs.Repair.{protected, wordBytes, Decoded, corrected, beyond, decode, repairedTo, refusedWith, answerTo, numberOf, repairOf, Repairs}
+use Rattle.dsc.specs.Repair.{protected, wordBytes, Decoded, corrected, beyond, decode, repairedTo, refusedWith, answerTo, numberOf, repairOf, leftIn, Repairs}
 use Rattle.dsc.specs.declared.Answer.{Answer}
+use Rattle.dsc.specs.declared.Outcome.the-variants as outcome
 use Rattle.dsc.proofs.Decoding.{decode-found, decode-none, Nearest, one, none, nearest}
 
 -- ---- one frame, bit by bit: of its 208 bits only B17 is set, the second bit of its third byte, and B203, the fourth of its last
@@ -117,3 +118,12 @@ repairs-only f a m = go (eqb (length f) 26) refl
 -- an answer that meets demand 3 is the defined one: what the function promises
 pub met : (f : List ℕ) (a : Answer) → a ≡ repairOf f → Repairs f a × (a ≡ repairOf f)
 met f a e = (subst (Repairs f) (sym e) (repairs f), e)
+
+-- ---- what stands in a buffer w after the answer a
+
+module _ (a : Answer) (w : List ℕ) {n : ℕ} where
+  pub left-refused : refusedWith n ≡ a → (outcome.Refused n ≡ a .outcome) × (w ≡ leftIn a w)
+  left-refused e = (ap (λ a. a .outcome) e, ap (λ a. leftIn a w) e)
+
+  pub left-repaired : (c : List Bool) {g : List ℕ} → repairedTo c n ≡ a → g ≡ wordBytes c → (outcome.Repaired n ≡ a .outcome) × (g ≡ leftIn a w)
+  left-repaired c e q = (ap (λ a. a .outcome) e, q ∙ ap (λ a. leftIn a w) e)

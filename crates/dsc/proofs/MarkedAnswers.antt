@@ -90,21 +90,21 @@ module _ (f m : List ℕ) where
     lm : length (protected m) ≡ 187
     lm = length-protected m (whole-marks m f w)
 
-    decoded : (d : Decoded) → decodeMarked (protected m) (protected f) ≡ d → markedRepairOf f m ≡ markedAnswer (protected m) (protected f) d
+    pub marked-decoded : (d : Decoded) → decodeMarked (protected m) (protected f) ≡ d → markedRepairOf f m ≡ markedAnswer (protected m) (protected f) d
     unfolding markedRepairOf
-    decoded d e =
+    marked-decoded d e =
         ap (λ (t : Bool). cond t (markedAnswer (protected m) (protected f) (decodeMarked (protected m) (protected f))) (refusedWith 1)) w
         ∙ ap (markedAnswer (protected m) (protected f)) e
 
     pub marked-repair-found : (c : List Bool) → CodeWord c → Few (protected m) (unmarkedDist (protected m) (protected f) c)
         → markedRepairOf f m ≡ repairedTo c (unmarkedDist (protected m) (protected f) c)
     unfolding markedAnswer
-    marked-repair-found c k d = decoded (corrected c) (marked-found (protected m) (protected f) lm lf c k d)
+    marked-repair-found c k d = marked-decoded (corrected c) (marked-found (protected m) (protected f) lm lf c k d)
 
     pub marked-repair-none : ((c : List Bool) → CodeWord c → Few (protected m) (unmarkedDist (protected m) (protected f) c) → ⊥)
         → markedRepairOf f m ≡ refusedWith 4
     unfolding markedAnswer
-    marked-repair-none n = decoded beyond (marked-none (protected m) (protected f) lm lf n)
+    marked-repair-none n = marked-decoded beyond (marked-none (protected m) (protected f) lm lf n)
 
     pub marked-repair-nearest : MarkedNearest (protected m) (protected f)
     marked-repair-nearest = marked-nearest (protected m) (protected f) lm lf

@@ -15,9 +15,8 @@ use Rattle.lanes.proofs.Lanes.{lane-xor, none-left, none-right, none-both}
 use Rattle.dsc.specs.Code.{weight, isCodeWord}
 use Rattle.dsc.specs.CheckTable.{syndrome}
 use Rattle.dsc.specs.Majority.{flipped}
-use Rattle.dsc.specs.Repair.{protected, wordBytes, repairedTo, refusedWith, answerTo, decode, repairOf, leftIn}
+use Rattle.dsc.specs.Repair.{protected, repairedTo, refusedWith, answerTo, decode, repairOf}
 use Rattle.dsc.specs.declared.Answer.{Answer}
-use Rattle.dsc.specs.declared.Outcome.the-variants as outcome
 use Rattle.dsc.proofs.Answers.{repair-decoded}
 use Rattle.dsc.proofs.Word.{word-tested, tested-word}
 use Rattle.dsc.proofs.CheckRows.{syndrome-add, word-even}
@@ -108,7 +107,7 @@ module _ {r e : List Bool} {c d n g h : ℕ} (lr : length r ≡ 187) (le : lengt
   mended z =
       answer-found r lr (add r e) n (even-tested (add r e) length-mended left128 left192 z) length-mended (m .places ∙ sym (ap weight (add-self r e))) (m .few)
 
--- ---- the answer by what was found, and what stands in a buffer then
+-- ---- the answer by what was found
 
 pub near : (r : List Bool) (x : Found) {w : Word} {n : ℕ} → Finds r x → x ≡ found.Near w n → Fits w × (repairedTo (held w) n ≡ answerTo r (decode r))
 near r x f e = subst (Finds r) e f
@@ -118,10 +117,3 @@ far-off r x f e = subst (Finds r) e f
 
 pub answered : (f : List ℕ) {r : List Bool} {a : Answer} → length f ≡ 26 → r ≡ protected f → a ≡ answerTo r (decode r) → a ≡ repairOf f
 answered f l e q = q ∙ ap (λ r. answerTo r (decode r)) e ∙ sym (repair-decoded f l (decode (protected f)) refl)
-
-module _ (f w : List ℕ) {n : ℕ} where
-  pub left-refused : refusedWith n ≡ repairOf f → (outcome.Refused n ≡ repairOf f .outcome) × (w ≡ leftIn (repairOf f) w)
-  left-refused e = (ap (λ a. a .outcome) e, ap (λ a. leftIn a w) e)
-
-  pub left-repaired : (c : List Bool) {g : List ℕ} → repairedTo c n ≡ repairOf f → g ≡ wordBytes c → (outcome.Repaired n ≡ repairOf f .outcome) × (g ≡ leftIn (repairOf f) w)
-  left-repaired c e q = (ap (λ a. a .outcome) e, q ∙ ap (λ a. leftIn a w) e)

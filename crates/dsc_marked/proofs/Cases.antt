@@ -1,18 +1,17 @@
 -- The ways out of the functions: a filling tried, both tried, and the answer to a frame's bytes. Assumes nothing.
 use mathlib.Core.Path.{_≡_, refl, sym, ap, ap₂, _∙_, subst}
-use mathlib.Core.Bool.{Bool, true, false, cond, _&&_}
+use mathlib.Core.Bool.{Bool, true, false}
 use mathlib.Core.List.{List}
-use mathlib.Core.Logic.{_≢_}
+use mathlib.Core.Logic.{_≢_, inl, inr}
 use Prim.Native.Nat.{ℕ}
-use lib.Dec.{eqb}
 use lib.ListN.{length, replicate}
-use borrow.Author.Tests.{eq-eqb, ne-eqb}
 use Rattle.dsc.specs.Code.{weight}
-use Rattle.dsc.specs.Repair.{protected, wordBytes, Decoded, corrected, beyond, decode, repairedTo, refusedWith, answerTo, leftIn}
-use Rattle.dsc.specs.Marks.{filled, decodeMarked, markedAnswer, markedRepairOf}
+use Rattle.dsc.specs.Repair.{protected, refusedWith, leftIn}
+use Rattle.dsc.specs.Marks.{filled, decodeMarked, markedAnswer, markedRepairOf, marked}
 use Rattle.dsc.specs.declared.Answer.{Answer}
 use Rattle.dsc.specs.declared.Outcome.{Outcome}
-use Rattle.dsc.specs.declared.Outcome.the-variants as outcome
+use Rattle.dsc.proofs.MarkedAnswers.{sized-whole, marked-decoded, each-answer}
+use Rattle.dsc.proofs.DoubtfulMarks.{doubtful-marks}
 use Rattle.dsc_words.specs.Words.{held, Fits}
 use Rattle.dsc_words.specs.declared.Word.{Word}
 use Rattle.dsc_words.proofs.Words.{length-held}
@@ -65,40 +64,19 @@ marked-far ms r x t e = subst (MarkedFinds ms r) e t
 
 module _ (f m : List ℕ) where
   pub short-frame : length f ≢ 26 → refusedWith 1 ≡ markedRepairOf f m
-  unfolding markedRepairOf
-  short-frame h = rw (ne-eqb (length f) 26 h)
+  short-frame h = sym (doubtful-marks .short f m (inl h))
 
-  pub short-marks : length f ≡ 26 → length m ≢ 26 → refusedWith 1 ≡ markedRepairOf f m
-  unfolding markedRepairOf
-  short-marks l h = rw (eq-eqb (length f) 26 l, ne-eqb (length m) 26 h)
+  pub short-marks : length m ≢ 26 → refusedWith 1 ≡ markedRepairOf f m
+  short-marks h = sym (doubtful-marks .short f m (inr h))
 
   pub answered : {r ms : List Bool} {a : Answer} → length f ≡ 26 → length m ≡ 26 → r ≡ protected f → ms ≡ protected m
       → a ≡ markedAnswer ms r (decodeMarked ms r) → a ≡ markedRepairOf f m
-  unfolding markedRepairOf
   answered lf lm er em q =
-      q ∙ ap₂ (λ ms r. markedAnswer ms r (decodeMarked ms r)) em er ∙ rw (eq-eqb (length f) 26 lf, eq-eqb (length m) 26 lm)
+      q ∙ ap₂ (λ ms r. markedAnswer ms r (decodeMarked ms r)) em er ∙ sym (marked-decoded f m (sized-whole (marked m) f lf lm) (decodeMarked (protected m) (protected f)) refl)
 
   -- a refusal has no word: the answer is its outcome and what it leaves of 26 clear bytes b
   pub whole-answer : {o : Outcome} {b w : List ℕ} → o ≡ markedRepairOf f m .outcome → w ≡ leftIn (markedRepairOf f m) b → b ≡ replicate 26 0
       → _≡_ {A = Answer} (record { outcome = o; word = w }) (markedRepairOf f m)
-  unfolding markedRepairOf markedAnswer
   whole-answer eo ew eb =
       ap₂ (λ o w. record { outcome = o; word = w }) eo (ew ∙ ap (leftIn (markedRepairOf f m)) eb)
-      ∙ go (eqb (length f) 26 && eqb (length m) 26) (decodeMarked (protected m) (protected f))
-    where
-      again : Answer → Answer
-      again a = record { outcome = a .outcome; word = leftIn a (replicate 26 0) }
-
-      go : (t : Bool) (d : Decoded) → again (cond t (markedAnswer (protected m) (protected f) d) (refusedWith 1)) ≡ cond t (markedAnswer (protected m) (protected f) d) (refusedWith 1)
-      go true (corrected c) = refl
-      go true beyond = refl
-      go false d = refl
-
--- ---- what stands in a buffer w after the answer a
-
-module _ (a : Answer) (w : List ℕ) {n : ℕ} where
-  pub left-refused : refusedWith n ≡ a → (outcome.Refused n ≡ a .outcome) × (w ≡ leftIn a w)
-  left-refused e = (ap (λ a. a .outcome) e, ap (λ a. leftIn a w) e)
-
-  pub left-repaired : (c : List Bool) {g : List ℕ} → repairedTo c n ≡ a → g ≡ wordBytes c → (outcome.Repaired n ≡ a .outcome) × (g ≡ leftIn a w)
-  left-repaired c e q = (ap (λ a. a .outcome) e, q ∙ ap (λ a. leftIn a w) e)
+      ∙ each-answer (marked m) f (λ (a : Answer). _≡_ {A = Answer} (record { outcome = a .outcome; word = leftIn a (replicate 26 0) }) a) (λ c n. refl) refl refl

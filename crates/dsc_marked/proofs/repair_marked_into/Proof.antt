@@ -1,7 +1,8 @@
 -- `dsc_marked::repair_marked_into` meets its contract. Assumes nothing.
 use Rattle.dsc.specs.Marks.{markedRepairOf}
 use Rattle.dsc_words.specs.Words.{held}
-use Rattle.dsc_marked.proofs.Cases.{marked-near, marked-far, short-frame, short-marks, answered, left-refused, left-repaired}
+use Rattle.dsc.proofs.Answers.{left-refused, left-repaired}
+use Rattle.dsc_marked.proofs.Cases.{marked-near, marked-far, short-frame, short-marks, answered}
 use borrow.Author.Needs.{needs}
 use Rattle.dsc_marked.proofs.repair_marked_into.Statement.{statement}
 use Rattle.dsc_marked.proofs.repair_marked_into.Tie as tie
@@ -18,7 +19,7 @@ returns-2 c =
     let s = c .before .before .before .before .before .args in
     let f = s .frame .now in
     let m = s .marks .now in
-    left-refused (markedRepairOf f m) (s .word .now) (short-marks f m (c .before .if1 .left) (c .if2 .taken))
+    left-refused (markedRepairOf f m) (s .word .now) (short-marks f m (c .if2 .taken))
 
 received-requires : tie.Need-received-requires
 received-requires c κs = search needs
