@@ -77,14 +77,25 @@ static const uint8_t *frame_of(const char *digits)
 /* The powers of x in the code's generator. */
 static const unsigned powers[18] = {82, 77, 76, 71, 67, 66, 56, 52, 48, 40, 36, 34, 24, 22, 18, 10, 4, 0};
 
-/* A frame of zeros with the first n of the generator's 18 places set: x^p stands at B(203 - p). */
-static void set_places(uint8_t *frame, unsigned n)
+/* Turns Bk over. */
+static void turn_over(uint8_t *bytes, unsigned k)
+{
+    bytes[k / 8] ^= (uint8_t)(0x80 >> k % 8);
+}
+
+/* A frame of zeros with the generator's places from number `first` on to before number `end` set: x^p stands at B(203 - p). */
+static void set_places_from(uint8_t *frame, unsigned first, unsigned end)
 {
     memset(frame, 0, GVZ_FRAME_BYTES);
-    for (unsigned i = 0; i < n; i++) {
-        unsigned k = 203 - powers[i];
-        frame[k / 8] |= (uint8_t)(0x80 >> k % 8);
+    for (unsigned i = first; i < end; i++) {
+        turn_over(frame, 203 - powers[i]);
     }
+}
+
+/* The same with the first n of its 18 places. */
+static void set_places(uint8_t *frame, unsigned n)
+{
+    set_places_from(frame, 0, n);
 }
 
 /* Of 40 bytes that hold 0xA5 the first 26 are left by either engine as `word`, if it is not NULL, and the rest as they were. */
@@ -130,6 +141,112 @@ static void test_repair(void)
     expect("the parts of a status",
         GVZ_REFUSAL((2u << 16) + (3u << 8) + 4) == 4 && GVZ_REPAIRED((2u << 16) + (3u << 8) + 4) == 3
             && GVZ_SYNC_BITS((2u << 16) + (3u << 8) + 4) == 2);
+}
+
+/* Of 40 bytes that hold 0xA5 the first 26 are left by the repair with marks as `word`, if it is not NULL, and the rest as they were. */
+static void expect_repair_marked_of(const char *what, const uint8_t *frame, size_t frame_len, const uint8_t *marks, size_t marks_len,
+    size_t word_len, uint32_t status, const uint8_t *word)
+{
+    uint8_t left[40], expected[40];
+    memset(left, 0xA5, sizeof left);
+    memset(expected, 0xA5, sizeof expected);
+    if (word != NULL) {
+        memcpy(expected, word, GVZ_FRAME_BYTES);
+    }
+    expect_left(what, gvz_repair_marked(frame, frame_len, marks, marks_len, left, word_len), status, left, expected, sizeof left);
+}
+
+/* The same for 26 bytes each, and again with each bit under the marks turned over, and with all of them: they do not matter. */
+static void expect_repair_marked(const char *what, const uint8_t *frame, const uint8_t *marks, uint32_t status, const uint8_t *word)
+{
+    uint8_t changed[GVZ_FRAME_BYTES], all[GVZ_FRAME_BYTES];
+    memcpy(all, frame, sizeof all);
+    expect_repair_marked_of(what, frame, 26, marks, 26, 26, status, word);
+    for (unsigned k = 0; k < 208; k++) {
+        if (marks[k / 8] & 0x80 >> k % 8) {
+            memcpy(changed, frame, sizeof changed);
+            turn_over(changed, k);
+            turn_over(all, k);
+            expect_repair_marked_of(what, changed, 26, marks, 26, 26, status, word);
+        }
+    }
+    expect_repair_marked_of(what, all, 26, marks, 26, 26, status, word);
+}
+
+/* Marks among the generator's 18 places, of which number 0 is x^82: the zero word and the generator both lie near. */
+static void test_repair_marked(void)
+{
+    uint8_t frame[GVZ_FRAME_BYTES], marks[GVZ_FRAME_BYTES], zeros[GVZ_FRAME_BYTES] = {0}, generator[GVZ_FRAME_BYTES];
+    const uint32_t beyond = GVZ_REFUSAL_BEYOND_REPAIR;
+    set_places(generator, 18);
+    set_places_from(marks, 1, 18);
+    expect_repair_marked("17 marks", zeros, marks, 0, zeros);
+    set_places(frame, 1);
+    expect_repair_marked("17 marks, and the 18th place received 1", frame, marks, 0, generator);
+    set_places(marks, 18);
+    expect_repair_marked("18 marks on zeros", zeros, marks, beyond, NULL);
+    expect_repair_marked("18 marks on the generator", generator, marks, beyond, NULL);
+    set_places_from(marks, 2, 18);
+    expect_repair_marked("16 marks", zeros, marks, 0, zeros);
+    expect_repair_marked("16 marks, and one other place received 1", frame, marks, beyond, NULL);
+    set_places(frame, 2);
+    expect_repair_marked("16 marks, and both others received 1", frame, marks, 0, generator);
+    set_places_from(marks, 3, 18);
+    expect_repair_marked("15 marks, and two of three others received 1", frame, marks, 1 << 8, generator);
+    set_places(frame, 1);
+    expect_repair_marked("15 marks, and one other place received 1", frame, marks, 1 << 8, zeros);
+    set_places(frame, 8);
+    set_places_from(marks, 8, 9);
+    expect_repair_marked("one mark and eight hits", frame, marks, 8 << 8, zeros);
+    set_places_from(marks, 8, 10);
+    expect_repair_marked("two marks and eight hits", frame, marks, beyond, NULL);
+    set_places(frame, 9);
+    set_places_from(marks, 9, 10);
+    expect_repair_marked("one mark and nine hits: the generator is nearer", frame, marks, 8 << 8, generator);
+}
+
+/* Marks that do not count, and no marks: the answers are those without marks. */
+static void test_marks_outside(void)
+{
+    uint8_t frame[GVZ_FRAME_BYTES], generator[GVZ_FRAME_BYTES], none[GVZ_FRAME_BYTES] = {0};
+    uint8_t outside[GVZ_FRAME_BYTES] = {[0] = 0xFF, [1] = 0xFF, [2] = 0x80, [25] = 0x0F};
+    const uint8_t *const marks[] = {none, outside};
+    set_places(generator, 18);
+    for (int i = 0; i < 2; i++) {
+        expect_repair_marked("marks outside B17 to B203, a code word", generator, marks[i], 0, generator);
+        set_places(frame, 8);
+        expect_repair_marked("marks outside B17 to B203, eight hits", frame, marks[i], 8 << 8, none);
+        set_places(frame, 9);
+        expect_repair_marked("marks outside B17 to B203, nine hits", frame, marks[i], GVZ_REFUSAL_BEYOND_REPAIR, NULL);
+        set_places(frame, 10);
+        expect_repair_marked("marks outside B17 to B203, ten hits", frame, marks[i], 8 << 8, generator);
+    }
+    for (unsigned k = 0; k < 208; k = k == 16 ? 204 : k + 1) {
+        uint8_t more[GVZ_FRAME_BYTES];
+        set_places_from(more, 1, 18);
+        turn_over(more, k);
+        expect_repair_marked("17 marks, and one outside B17 to B203", none, more, 0, none);
+    }
+}
+
+/* Frames, marks and words of other lengths, also where there are too many marks. */
+static void test_marked_lengths(void)
+{
+    static const uint8_t zeros[40] = {0};
+    uint8_t ones[40];
+    const uint8_t *const marks[] = {zeros, ones};
+    memset(ones, 0xFF, sizeof ones);
+    for (int i = 0; i < 2; i++) {
+        for (size_t n = 0; n <= 40; n++) {
+            if (n != GVZ_FRAME_BYTES) {
+                const uint32_t wrong_length = GVZ_REFUSAL_WRONG_LENGTH;
+                expect_repair_marked_of("a frame of another length", zeros, n, marks[i], 26, 26, wrong_length, NULL);
+                expect_repair_marked_of("marks of another length", zeros, 26, marks[i], n, 26, wrong_length, NULL);
+                expect_repair_marked_of("both of another length", zeros, n, marks[i], n, 26, wrong_length, NULL);
+                expect_repair_marked_of("a word of another length", zeros, 26, marks[i], 26, n, wrong_length, NULL);
+            }
+        }
+    }
 }
 
 /* The record of PLACE, a test: 35.6 south, 139.7 west, 40 km. */
@@ -268,6 +385,132 @@ static void test_safety_read(void)
     expect_safety_read("B55 belongs to the region", "1af71500000001000000000000001d6a7918b34f91c2e858c1b0", 0, highest);
     expect_safety_read("start/end 11", "1af77d00000000000000000000004f79f17838e1e22a605242a0", GVZ_REFUSAL_START_END_OR_UPDATE, NULL);
     expect_frame_read("a wrong CRC", "1af70500000000000000000000004f11169683140539b2cc2900", 26, 21, GVZ_REFUSAL_FRAME_CRC, NULL);
+}
+
+/* ---- Frames with doubtful marks */
+
+/* t hits and s marks on a frame, from B17 on: the hits first, and under the marks all bits turned over. */
+static void damage(uint8_t *frame, uint8_t *marks, unsigned t, unsigned s)
+{
+    memset(marks, 0, GVZ_FRAME_BYTES);
+    for (unsigned k = 17; k < 17 + t + s; k++) {
+        turn_over(frame, k);
+        if (k >= 17 + t) {
+            turn_over(marks, k);
+        }
+    }
+}
+
+/* Read by an edition as every tuner's: of 24 values that hold 7 the first 21 are left as `record` with the tuner told, if it is not NULL. */
+static void expect_read_marked_by(uint32_t edition, const char *what, const uint8_t *frame, size_t frame_len, const uint8_t *marks,
+    size_t marks_len, size_t record_len, uint32_t status, const uint64_t *record)
+{
+    for (int t = 0; t < TOLD; t++) {
+        uint64_t left[24], expected[24];
+        for (int i = 0; i < 24; i++) {
+            left[i] = 7;
+            expected[i] = record != NULL && i < GVZ_FRAME_VALUES ? record[i] : 7;
+        }
+        if (record != NULL) {
+            expected[GVZ_RECORD_TUNER] = TUNERS[t].held;
+        }
+        expect_left(what, gvz_frame_read_marked(edition, TUNERS[t].told, frame, frame_len, marks, marks_len, left, record_len), status, left,
+            expected, sizeof left);
+    }
+}
+
+/* Read by every edition and judged: the judgment tells the record's repaired places above the number. */
+static void expect_marked(const char *what, const uint8_t *frame, size_t frame_len, const uint8_t *marks, size_t marks_len, uint32_t status,
+    const uint64_t *record)
+{
+    uint32_t places = record != NULL ? (uint32_t)record[GVZ_RECORD_REPAIRED] : 0;
+    for (int i = 0; i < NUMBERS; i++) {
+        expect_read_marked_by(EDITIONS[i], what, frame, frame_len, marks, marks_len, 21, status, record);
+    }
+    expect(what, gvz_frame_judge_marked(frame, frame_len, marks, marks_len) == status + (places << 8));
+}
+
+/* Every t with as many marks as there may be, and with one more; with up to three of B1 to B16 turned over. */
+static void test_marked_damage(void)
+{
+    static const uint8_t turned_over[] = {0, 0x10, 0x30, 0x70};
+    const uint64_t zeros[GVZ_FRAME_VALUES] = {0};
+    for (unsigned t = 0; t <= 9; t++) {
+        for (unsigned differing = 0; differing <= 3; differing++) {
+            uint8_t frame[GVZ_FRAME_BYTES], marks[GVZ_FRAME_BYTES];
+            if (t <= 8) {
+                memcpy(frame, frame_of(ALL_AREAS), sizeof frame);
+                frame[0] ^= turned_over[differing];
+                damage(frame, marks, t, 17 - 2 * t);
+                expect_marked("2 t + s is 17", frame, 26, marks, 26, differing << 16, repaired(zeros, t));
+            }
+            memcpy(frame, frame_of(ALL_AREAS), sizeof frame);
+            frame[0] ^= turned_over[differing];
+            damage(frame, marks, t, 18 - 2 * t);
+            expect_marked("2 t + s is 18", frame, 26, marks, 26, GVZ_REFUSAL_BEYOND_REPAIR, NULL);
+        }
+    }
+    uint8_t frame[GVZ_FRAME_BYTES], marks[GVZ_FRAME_BYTES];
+    memcpy(frame, frame_of(ALL_AREAS), sizeof frame);
+    damage(frame, marks, 3, 11);
+    frame[0] ^= 0x20;
+    uint32_t status = gvz_frame_judge_marked(frame, 26, marks, 26);
+    expect("the parts of its status", GVZ_REFUSAL(status) == 0 && GVZ_REPAIRED(status) == 3 && GVZ_SYNC_BITS(status) == 1);
+}
+
+/* Each refusal with 17 marks and with 18: 4 stands between 3 and 5. */
+static void test_marked_refusals(void)
+{
+    static const struct {
+        const char *what, *digits;
+        uint32_t few, many;
+    } frames[] = {
+        {"filler, before the marks", "1af7000000000000000000000000000000000000000000000001", 2, 2},
+        {"no pattern, before the marks", "0000000000000000000000000000000000000000000000000000", 3, 3},
+        {"CRC, after the marks", CLEAN_WRONG_CRC, 5, 4},
+        {"identification 4, after the marks", "1af7640000000000000000000000dd6ba7e8239c630ae7c28140", 6, 4},
+        {"update 2 of 7, after the marks", "1af777ffffffff00bfffffffffff3e583d134b51523b875a54e0", 7, 4},
+        {"B111, after the marks", "1af7000000000100070a0000000071fee4dcd9339873b730f150", 8, 4},
+        {"latitude 901, after the marks", "1af70a0000000ba58f0baea14709a335ac25ca42ddbf9efe2c30", 9, 4},
+    };
+    for (size_t i = 0; i < sizeof frames / sizeof *frames; i++) {
+        uint8_t frame[GVZ_FRAME_BYTES + 1] = {0}, marks[GVZ_FRAME_BYTES + 1] = {0};
+        memcpy(frame, frame_of(frames[i].digits), GVZ_FRAME_BYTES);
+        damage(frame, marks, 0, 17);
+        expect_marked(frames[i].what, frame, 26, marks, 26, frames[i].few, NULL);
+        memcpy(frame, frame_of(frames[i].digits), GVZ_FRAME_BYTES);
+        damage(frame, marks, 0, 18);
+        expect_marked(frames[i].what, frame, 26, marks, 26, frames[i].many, NULL);
+        for (size_t n = 25; n <= 27; n += 2) {
+            expect_marked("a frame of another length", frame, n, marks, 26, GVZ_REFUSAL_WRONG_LENGTH, NULL);
+            expect_marked("marks of another length", frame, 26, marks, n, GVZ_REFUSAL_WRONG_LENGTH, NULL);
+        }
+        expect_marked("marks of no bytes", frame, 26, marks, 0, GVZ_REFUSAL_WRONG_LENGTH, NULL);
+    }
+}
+
+/* Records of other lengths, marks that do not count, and area safety information, which the judgment refuses. */
+static void test_marked_frames(void)
+{
+    uint8_t frame[GVZ_FRAME_BYTES], marks[GVZ_FRAME_BYTES];
+    memcpy(frame, frame_of(PLACE), sizeof frame);
+    damage(frame, marks, 2, 13);
+    expect_marked("a place", frame, 26, marks, 26, 0, repaired(place_record, 2));
+    for (int i = 0; i < LENGTHS; i++) {
+        expect_read_marked_by(0, "a record of another length", frame, 26, marks, 26, OTHER_LENGTHS[i], GVZ_REFUSAL_WRONG_LENGTH, NULL);
+    }
+    marks[0] = marks[1] = 0xFF;
+    marks[2] |= 0x80;
+    marks[25] |= 0x0F;
+    expect_marked("marks outside B17 to B203", frame, 26, marks, 26, 0, repaired(place_record, 2));
+    memcpy(frame, frame_of(AREA_SAFETY), sizeof frame);
+    damage(frame, marks, 2, 13);
+    for (int i = 0; i < NUMBERS; i++) {
+        int has = EDITIONS[i] == GVZ_EDITION_AREA_SAFETY;
+        expect_read_marked_by(EDITIONS[i], "area safety", frame, 26, marks, 26, 21, has ? 0 : GVZ_REFUSAL_IDENTIFICATION,
+            has ? repaired(safety_record, 2) : NULL);
+    }
+    expect("area safety, judged", gvz_frame_judge_marked(frame, 26, marks, 26) == GVZ_REFUSAL_IDENTIFICATION);
 }
 
 /* A record with one field changed, written into 28 bytes that hold 0xA5. */
@@ -857,6 +1100,65 @@ static void test_safety_laying(void)
     }
 }
 
+/* Laid in by every edition. */
+static void expect_lay_in_marked(const char *what, const uint8_t *before, size_t header_len, const uint8_t *frame, size_t frame_len,
+    const uint8_t *marks, size_t marks_len, uint32_t status, const uint8_t *after)
+{
+    for (int i = 0; i < NUMBERS; i++) {
+        uint8_t header[GVZ_CABLE_BYTES];
+        memcpy(header, before, sizeof header);
+        expect_left(what, gvz_lay_in_marked(EDITIONS[i], header, header_len, frame, frame_len, marks, marks_len), status, header, after,
+            sizeof header);
+    }
+}
+
+static void test_marked_laying(void)
+{
+    uint8_t empty[GVZ_CABLE_BYTES], laid[GVZ_CABLE_BYTES], broken[GVZ_CABLE_BYTES], frame[GVZ_FRAME_BYTES + 1] = {0},
+        marks[GVZ_FRAME_BYTES + 1] = {0};
+    const uint32_t wrong_length = GVZ_REFUSAL_WRONG_LENGTH;
+    model_header(empty, 0xE760A571);
+    model_header(laid, 0xB0AC5A53);
+    memcpy(laid + 99, frame_of(ALL_AREAS), 25);
+    laid[124] = 0x0F;
+    model_header(broken, 0xE760A570);
+
+    memcpy(frame, frame_of(ALL_AREAS), GVZ_FRAME_BYTES);
+    expect_lay_in_marked("no marks", empty, 188, frame, 26, marks, 26, 0, laid);
+    damage(frame, marks, 5, 7);
+    frame[0] ^= 0x70;
+    expect_lay_in_marked("2 t + s is 17, three of B1 to B16", empty, 188, frame, 26, marks, 26, 0, laid);
+    expect_lay_in_marked("a header of 187", empty, 187, frame, 26, marks, 26, wrong_length, empty);
+    expect_lay_in_marked("a frame of 25", empty, 188, frame, 25, marks, 26, wrong_length, empty);
+    expect_lay_in_marked("marks of 25", empty, 188, frame, 26, marks, 25, wrong_length, empty);
+    expect_lay_in_marked("marks of 27", empty, 188, frame, 26, marks, 27, wrong_length, empty);
+    expect_lay_in_marked("marks of none", empty, 188, frame, 26, marks, 0, wrong_length, empty);
+    expect_lay_in_marked("the header before the marks", broken, 188, frame, 26, marks, 0, GVZ_REFUSAL_HEADER_CRC, broken);
+    memcpy(frame, frame_of(ALL_AREAS), GVZ_FRAME_BYTES);
+    damage(frame, marks, 0, 18);
+    expect_lay_in_marked("18 marks", empty, 188, frame, 26, marks, 26, GVZ_REFUSAL_BEYOND_REPAIR, empty);
+    expect_lay_in_marked("the header before 18 marks", broken, 188, frame, 26, marks, 26, GVZ_REFUSAL_HEADER_CRC, broken);
+    frame[25] |= 1;
+    expect_lay_in_marked("filler before 18 marks", empty, 188, frame, 26, marks, 26, GVZ_REFUSAL_FILLER_SET, empty);
+}
+
+/* Laid in with 17 marks by its own edition alone. */
+static void test_marked_safety_laying(void)
+{
+    uint8_t frame[GVZ_FRAME_BYTES], marks[GVZ_FRAME_BYTES];
+    memcpy(frame, frame_of(AREA_SAFETY), sizeof frame);
+    damage(frame, marks, 0, 17);
+    for (int i = 0; i < NUMBERS; i++) {
+        int has = EDITIONS[i] == GVZ_EDITION_AREA_SAFETY;
+        uint8_t header[GVZ_CABLE_BYTES], expected[GVZ_CABLE_BYTES];
+        model_header(header, 0xE760A571);
+        model_header(expected, 0xE760A571);
+        uint32_t clean = gvz_lay_in(EDITIONS[i], expected, 188, frame_of(AREA_SAFETY), 26);
+        expect("area safety without marks", clean == (has ? 0 : GVZ_REFUSAL_IDENTIFICATION));
+        expect_left("area safety", gvz_lay_in_marked(EDITIONS[i], header, 188, frame, 26, marks, 26), clean, header, expected, sizeof header);
+    }
+}
+
 static void test_crc32(void)
 {
     static const uint8_t digits[] = "123456789";
@@ -908,12 +1210,44 @@ static void test_null(uint32_t edition)
     expect("no bytes", gvz_crc32(NULL, 0) == 0xFFFFFFFF);
 }
 
+static void test_null_marked(uint32_t edition)
+{
+    uint8_t word[GVZ_FRAME_BYTES] = {0}, header[GVZ_CABLE_BYTES];
+    const uint8_t marks[GVZ_FRAME_BYTES] = {0}, *frame = frame_of(ALL_AREAS);
+    uint64_t record[GVZ_FRAME_VALUES] = {0};
+    const uint32_t wrong_length = GVZ_REFUSAL_WRONG_LENGTH;
+    model_header(header, 0xE760A571);
+
+    expect("no marks, no frame, no word", gvz_repair_marked(frame, 26, NULL, 0, word, 26) == wrong_length
+            && gvz_repair_marked(NULL, 0, marks, 26, word, 26) == wrong_length && gvz_repair_marked(frame, 26, marks, 26, NULL, 0) == wrong_length
+            && gvz_repair_marked(NULL, 0, NULL, 0, NULL, 0) == wrong_length);
+    for (int t = 0; t < TOLD; t++) {
+        uint32_t tuner = TUNERS[t].told;
+        expect("no marks, no frame, no record", gvz_frame_read_marked(edition, tuner, frame, 26, NULL, 0, record, 21) == wrong_length
+                && gvz_frame_read_marked(edition, tuner, NULL, 0, marks, 26, record, 21) == wrong_length
+                && gvz_frame_read_marked(edition, tuner, frame, 26, marks, 26, NULL, 0) == wrong_length
+                && gvz_frame_read_marked(edition, tuner, NULL, 0, NULL, 0, NULL, 0) == wrong_length);
+    }
+    expect("no marks, no frame to judge", gvz_frame_judge_marked(frame, 26, NULL, 0) == wrong_length
+            && gvz_frame_judge_marked(NULL, 0, marks, 26) == wrong_length && gvz_frame_judge_marked(NULL, 0, NULL, 0) == wrong_length);
+    expect("no marks, no frame, no header", gvz_lay_in_marked(edition, header, 188, frame, 26, NULL, 0) == wrong_length
+            && gvz_lay_in_marked(edition, header, 188, NULL, 0, marks, 26) == wrong_length
+            && gvz_lay_in_marked(edition, NULL, 0, frame, 26, marks, 26) == wrong_length
+            && gvz_lay_in_marked(edition, NULL, 0, NULL, 0, NULL, 0) == wrong_length);
+}
+
 int main(void)
 {
     test_repair();
+    test_repair_marked();
+    test_marks_outside();
+    test_marked_lengths();
     test_frame_read();
     test_damage();
     test_safety_read();
+    test_marked_damage();
+    test_marked_refusals();
+    test_marked_frames();
     test_frame_write();
     test_safety_write();
     test_origin();
@@ -929,9 +1263,12 @@ int main(void)
     test_header_write();
     test_laying();
     test_safety_laying();
+    test_marked_laying();
+    test_marked_safety_laying();
     test_crc32();
     for (int i = 0; i < NUMBERS; i++) {
         test_null(EDITIONS[i]);
+        test_null_marked(EDITIONS[i]);
     }
     if (failures == 0) {
         printf("c: all answers are as expected\n");

@@ -13,7 +13,7 @@
  * A refusal tells its number alone, but for gvz_follow, and leaves every buffer as it was: look at GVZ_REFUSAL first,
  * since what stands above it means something only where that is 0. Refusal 1 is also given for a record, word,
  * place or field buffer of another length than the one named here, before anything else is looked at. Frames and
- * headers of another length get their 1 where document 01 tests it.
+ * headers of another length get their 1 where document 01 tests it, and so do marks, together with their frame.
  *
  * Where a frame or a record is judged, the first parameter names the edition, an enum gvz_edition.
  */
@@ -37,14 +37,14 @@ extern "C" {
 /* Document 01's refusals, by their numbers. */
 enum gvz_refusal {
     GVZ_REFUSAL_NONE = 0,
-    /* a frame is not 26 bytes, a header is not 188, a frame number is past the capture, or a buffer has another
-     * length than the one named beside the function */
+    /* a frame or its marks are not 26 bytes, a header is not 188, a frame number is past the capture, or a buffer has
+     * another length than the one named beside the function */
     GVZ_REFUSAL_WRONG_LENGTH = 1,
     /* a filler bit is 1 */
     GVZ_REFUSAL_FILLER_SET = 2,
     /* four bits or more of B1 to B16 differ from both patterns */
     GVZ_REFUSAL_NO_PATTERN = 3,
-    /* no code word lies within eight places */
+    /* no code word lies within eight places; with doubtful marks, none is as near as they ask */
     GVZ_REFUSAL_BEYOND_REPAIR = 4,
     /* the CRC differs, in the repaired word */
     GVZ_REFUSAL_FRAME_CRC = 5,
@@ -83,12 +83,13 @@ enum gvz_refusal {
 /* Areas are numbered from 0 to GVZ_AREAS - 1, in the order of the notice's schedule 2; 15 is Tokyo. */
 #define GVZ_AREAS 56
 
-/* The repaired places, 0 to 8, of a status of gvz_repair and gvz_repair_register. Those of gvz_frame_read stand in the
- * record, at GVZ_RECORD_REPAIRED: of its status this is 0. */
+/* The repaired places, 0 to 8, of a status of gvz_repair, gvz_repair_register, gvz_repair_marked and
+ * gvz_frame_judge_marked. Those of gvz_frame_read and gvz_frame_read_marked stand in the record, at
+ * GVZ_RECORD_REPAIRED: of their status this is 0. */
 #define GVZ_REPAIRED(status) ((status) >> 8 & 255u)
 
-/* How many bits of B1 to B16 differed from the pattern, 0 to 3, of a status of gvz_frame_read; they are not among the
- * repaired places. */
+/* How many bits of B1 to B16 differed from the pattern, 0 to 3, of a status of gvz_frame_read, gvz_frame_read_marked
+ * and gvz_frame_judge_marked; they are not among the repaired places. */
 #define GVZ_SYNC_BITS(status) ((status) >> 16 & 255u)
 
 /* Whether the area is warned, 1 or 0, of a status of gvz_warned whose GVZ_REFUSAL is 0. At a refusal it is 0 too, which
@@ -173,7 +174,8 @@ enum gvz_record_index {
     GVZ_RECORD_REGION = 18,
     /* the tuner that the reader was told, an enum gvz_tuner; GVZ_TUNER_NONE in a record made at the desk */
     GVZ_RECORD_TUNER = 19,
-    /* how many places of B17 to B203 the reader repaired, 0 to 8; 0 in a record made at the desk */
+    /* how many places of B17 to B203 the reader repaired, 0 to 8, the unmarked ones alone where it was given marks; 0
+     * in a record made at the desk */
     GVZ_RECORD_REPAIRED = 20
 };
 
@@ -187,6 +189,18 @@ uint32_t gvz_repair(const uint8_t *frame, size_t frame_len, uint8_t *word, size_
 /* Returns the same by a second engine, which divides by a shift register bit by bit: slow, for comparison. */
 uint32_t gvz_repair_register(const uint8_t *frame, size_t frame_len, uint8_t *word, size_t word_len);
 
+/* Doubtful marks: GVZ_FRAME_BYTES bytes that come beside a frame, in which Bk is 1 where the frame's Bk is doubtful.
+ * Only the marks of B17 to B203 count, s of them set; the bits received under them do not matter. In the functions that
+ * take marks, the code word that differs in t unmarked places with 2 t + s at most 17 stands in the place of the one
+ * within eight places. There is never more than one; where there is none, as always from 18 marks on, the refusal is 4.
+ * The repaired places are t, 0 to 8. With no mark set they answer as the functions without marks do. */
+
+/* The repair with doubtful marks, asked for alone: looks at B17 to B203 of the frame and of its marks. Returns a status:
+ * refuses 1, for the frame or for the marks, then 4; tells the repaired places. Repaired, word, of GVZ_FRAME_BYTES,
+ * holds the code word, B17 to B203 at their places and 0 elsewhere. */
+uint32_t gvz_repair_marked(const uint8_t *frame, size_t frame_len, const uint8_t *marks, size_t marks_len, uint8_t *word,
+    size_t word_len);
+
 /* Reads a frame into a record of GVZ_FRAME_VALUES, by the edition named. The tuner, an enum gvz_tuner, is told and goes
  * into the record; it changes nothing else. Hand over what gvz_capture_source answered, or GVZ_TUNER_NONE where the
  * frame came from no tuner; any other number is taken for none. Returns a status: refuses 1 to 9; tells the bits of B1
@@ -194,6 +208,15 @@ uint32_t gvz_repair_register(const uint8_t *frame, size_t frame_len, uint8_t *wo
  * The repaired places stand in the record. */
 uint32_t gvz_frame_read(uint32_t edition, uint32_t tuner, const uint8_t *frame, size_t frame_len, uint64_t *record,
     size_t record_len);
+
+/* The same of a frame with its doubtful marks. Returns a status: refuses 1, for the frame or for the marks, then 2 to
+ * 9; tells GVZ_SYNC_BITS, as gvz_frame_read does. Marks on B1 to B16 change nothing. */
+uint32_t gvz_frame_read_marked(uint32_t edition, uint32_t tuner, const uint8_t *frame, size_t frame_len,
+    const uint8_t *marks, size_t marks_len, uint64_t *record, size_t record_len);
+
+/* Judges a frame with its doubtful marks by the first edition, and makes no record. Returns a status: refuses as
+ * gvz_frame_read_marked does; tells the repaired places, GVZ_REPAIRED, and GVZ_SYNC_BITS. */
+uint32_t gvz_frame_judge_marked(const uint8_t *frame, size_t frame_len, const uint8_t *marks, size_t marks_len);
 
 /* Writes a record of GVZ_FRAME_VALUES into a frame of GVZ_FRAME_BYTES, by the edition named; the tuner and the repaired
  * places are not looked at. So the record, read again, has the tuner then told and no repaired place, and is the same
@@ -331,6 +354,11 @@ uint32_t gvz_header_write(const uint64_t *record, size_t record_len, uint8_t *he
 /* Lays a frame, repaired and with the clean pattern, into a header, in place. Returns a status: refuses the header as
  * gvz_header_read does, then the frame as gvz_frame_read does by the edition named; tells nothing. */
 uint32_t gvz_lay_in(uint32_t edition, uint8_t *header, size_t header_len, const uint8_t *frame, size_t frame_len);
+
+/* The same of a frame with its doubtful marks. Returns a status: refuses the header as gvz_header_read does, then the
+ * frame as gvz_frame_read_marked does by the edition named; tells nothing. */
+uint32_t gvz_lay_in_marked(uint32_t edition, uint8_t *header, size_t header_len, const uint8_t *frame, size_t frame_len,
+    const uint8_t *marks, size_t marks_len);
 
 /* Writes 204 ones instead of a header's frame, in place. Returns a status: refuses as gvz_header_read does; tells
  * nothing. */
