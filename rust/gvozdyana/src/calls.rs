@@ -18,6 +18,14 @@ mod archive {
             word: *mut u8,
             word_len: usize,
         ) -> u32;
+        pub fn gvz_repair_marked(
+            frame: *const u8,
+            frame_len: usize,
+            marks: *const u8,
+            marks_len: usize,
+            word: *mut u8,
+            word_len: usize,
+        ) -> u32;
         pub fn gvz_frame_read(
             edition: u32,
             tuner: u32,
@@ -25,6 +33,22 @@ mod archive {
             frame_len: usize,
             record: *mut u64,
             record_len: usize,
+        ) -> u32;
+        pub fn gvz_frame_read_marked(
+            edition: u32,
+            tuner: u32,
+            frame: *const u8,
+            frame_len: usize,
+            marks: *const u8,
+            marks_len: usize,
+            record: *mut u64,
+            record_len: usize,
+        ) -> u32;
+        pub fn gvz_frame_judge_marked(
+            frame: *const u8,
+            frame_len: usize,
+            marks: *const u8,
+            marks_len: usize,
         ) -> u32;
         pub fn gvz_frame_write(
             edition: u32,
@@ -84,6 +108,15 @@ mod archive {
             frame: *const u8,
             frame_len: usize,
         ) -> u32;
+        pub fn gvz_lay_in_marked(
+            edition: u32,
+            header: *mut u8,
+            header_len: usize,
+            frame: *const u8,
+            frame_len: usize,
+            marks: *const u8,
+            marks_len: usize,
+        ) -> u32;
         pub fn gvz_take_out(header: *mut u8, header_len: usize) -> u32;
         pub fn gvz_crc32(bytes: *const u8, bytes_len: usize) -> u32;
     }
@@ -103,6 +136,20 @@ pub fn repair_register(frame: &[u8], word: &mut [u8]) -> u32 {
     }
 }
 
+/// The same as [`repair`] with doubtful marks, 26 bytes.
+pub fn repair_marked(frame: &[u8], marks: &[u8], word: &mut [u8]) -> u32 {
+    unsafe {
+        archive::gvz_repair_marked(
+            frame.as_ptr(),
+            frame.len(),
+            marks.as_ptr(),
+            marks.len(),
+            word.as_mut_ptr(),
+            word.len(),
+        )
+    }
+}
+
 /// The number and 65536 times the bits of B1 to B16 that differed; `record` has 21 values, of which the last two are the tuner told and the repaired
 /// places.
 pub fn frame_read(edition: u32, tuner: u32, frame: &[u8], record: &mut [u64]) -> u32 {
@@ -115,6 +162,35 @@ pub fn frame_read(edition: u32, tuner: u32, frame: &[u8], record: &mut [u64]) ->
             record.as_mut_ptr(),
             record.len(),
         )
+    }
+}
+
+/// The same as [`frame_read`] with doubtful marks, 26 bytes.
+pub fn frame_read_marked(
+    edition: u32,
+    tuner: u32,
+    frame: &[u8],
+    marks: &[u8],
+    record: &mut [u64],
+) -> u32 {
+    unsafe {
+        archive::gvz_frame_read_marked(
+            edition,
+            tuner,
+            frame.as_ptr(),
+            frame.len(),
+            marks.as_ptr(),
+            marks.len(),
+            record.as_mut_ptr(),
+            record.len(),
+        )
+    }
+}
+
+/// The number, 256 times the repaired places and 65536 times the bits of B1 to B16 that differed, by the first edition.
+pub fn frame_judge_marked(frame: &[u8], marks: &[u8]) -> u32 {
+    unsafe {
+        archive::gvz_frame_judge_marked(frame.as_ptr(), frame.len(), marks.as_ptr(), marks.len())
     }
 }
 
@@ -228,6 +304,21 @@ pub fn lay_in(edition: u32, header: &mut [u8], frame: &[u8]) -> u32 {
             header.len(),
             frame.as_ptr(),
             frame.len(),
+        )
+    }
+}
+
+/// The same as [`lay_in`] with doubtful marks, 26 bytes.
+pub fn lay_in_marked(edition: u32, header: &mut [u8], frame: &[u8], marks: &[u8]) -> u32 {
+    unsafe {
+        archive::gvz_lay_in_marked(
+            edition,
+            header.as_mut_ptr(),
+            header.len(),
+            frame.as_ptr(),
+            frame.len(),
+            marks.as_ptr(),
+            marks.len(),
         )
     }
 }

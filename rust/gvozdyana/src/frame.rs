@@ -24,7 +24,8 @@ macro_rules! record {
             $(#[doc = $words] pub $name: u64,)*
             /// The tuner that the reader was told; none in a record that is made and not read. No rule looks at it.
             pub tuner: Tuner,
-            /// How many places of B17 to B203 the reader repaired, 0 to 8; 0 in a record that is made and not read. No rule looks at it.
+            /// How many places of B17 to B203 the reader repaired, 0 to 8, the unmarked ones alone where it was given marks; 0 in a record that is
+            /// made and not read. No rule looks at it.
             pub repaired: u64,
         }
 
@@ -350,6 +351,76 @@ pub fn read(edition: Edition, tuner: Tuner, frame: &[u8]) -> Result<Reading, Ref
     let [_, differing, ..] = told(status)?.to_le_bytes();
     Ok(Reading {
         record: Record::from_values(values),
+        differing,
+    })
+}
+
+/// Reads a frame with its doubtful marks, which [`repair_marked`](crate::repair_marked) explains; marks on B1 to B16 change nothing. The record's
+/// number of repaired places is that of the unmarked ones. All else is as in [`read`]. Refuses 1, for the frame or for the marks, then 2 to 9.
+///
+/// ```
+/// use gvozdyana::frame::{read, read_marked, write, Record};
+/// use gvozdyana::{Edition, Refusal, Tuner};
+///
+/// let read_marked = |frame: &[u8], marks: &[u8]| {
+///     read_marked(Edition::First, Tuner::Main, frame, marks)
+/// };
+/// let mut frame = write(Edition::First, &Record::no_information(5))?;
+/// let clean = read(Edition::First, Tuner::Main, &frame)?;
+/// let mut marks = [0; 26];
+/// assert_eq!(read_marked(&frame, &marks), Ok(clean));
+/// // Bits that cannot be made out, sixteen of them in a row, are marked.
+/// (frame[10], frame[11]) = (0, 0);
+/// (marks[10], marks[11]) = (0xFF, 0xFF);
+/// assert_eq!(read_marked(&frame, &marks), Ok(clean));
+/// assert_eq!(read(Edition::First, Tuner::Main, &frame), Err(Refusal::BeyondRepair));
+/// assert_eq!(read_marked(&frame, &marks[..25]), Err(Refusal::WrongLength));
+/// # Ok::<(), Refusal>(())
+/// ```
+pub fn read_marked(
+    edition: Edition,
+    tuner: Tuner,
+    frame: &[u8],
+    marks: &[u8],
+) -> Result<Reading, Refusal> {
+    let mut values = [0; FRAME_VALUES];
+    let (edition, tuner) = (edition.number(), tuner.number());
+    let status = calls::frame_read_marked(edition, tuner, frame, marks, &mut values);
+    let [_, differing, ..] = told(status)?.to_le_bytes();
+    Ok(Reading {
+        record: Record::from_values(values),
+        differing,
+    })
+}
+
+/// What was put right in an accepted frame.
+#[derive(Clone, Copy, Debug, PartialEq, Eq)]
+pub struct Judgment {
+    /// How many unmarked places of B17 to B203 were repaired, 0 to 8.
+    pub repaired: u8,
+    /// How many bits of B1 to B16 differed from the pattern, 0 to 3. They are not among the repaired places.
+    pub differing: u8,
+}
+
+/// Judges a frame with its doubtful marks by the first edition, without making a record: refuses as [`read_marked`] does.
+///
+/// ```
+/// use gvozdyana::frame::{judge_marked, Judgment};
+/// use gvozdyana::Refusal;
+///
+/// // A warning for all areas. B203 is hit, B1 is received wrongly, and B195 to B202 are doubtful.
+/// let (mut frame, mut marks) = ([0; 26], [0; 26]);
+/// (frame[0], frame[1], frame[25]) = (0x5A, 0xF7, 0x10);
+/// (marks[24], marks[25]) = (0x1F, 0xE0);
+/// let judged = judge_marked(&frame, &marks)?;
+/// assert_eq!(judged, Judgment { repaired: 1, differing: 1 });
+/// assert_eq!(judge_marked(&frame, &[0xFF; 26]), Err(Refusal::BeyondRepair));
+/// # Ok::<(), Refusal>(())
+/// ```
+pub fn judge_marked(frame: &[u8], marks: &[u8]) -> Result<Judgment, Refusal> {
+    let [repaired, differing, ..] = told(calls::frame_judge_marked(frame, marks))?.to_le_bytes();
+    Ok(Judgment {
+        repaired,
         differing,
     })
 }

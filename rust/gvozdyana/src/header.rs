@@ -165,6 +165,36 @@ pub fn lay_in(edition: Edition, header: &mut [u8], frame: &[u8]) -> Result<(), R
     told(calls::lay_in(edition.number(), header, frame)).map(|_| ())
 }
 
+/// The same of a frame with its doubtful marks: refuses the header as [`read`] does, then the frame as
+/// [`frame::read_marked`](crate::frame::read_marked) does by the edition named; the header is then as it was.
+///
+/// ```
+/// use gvozdyana::header::{lay_in, lay_in_marked, write, Header};
+/// use gvozdyana::{frame, Edition, Refusal};
+///
+/// let empty = write(&Header::default())?;
+/// let (mut header, mut expected) = (empty, empty);
+/// let mut frame = frame::write(Edition::First, &frame::Record::no_information(5))?;
+/// lay_in(Edition::First, &mut expected, &frame)?;
+/// // Sixteen bits that cannot be made out.
+/// let mut marks = [0; 26];
+/// (frame[10], frame[11]) = (0, 0);
+/// (marks[10], marks[11]) = (0xFF, 0xFF);
+/// lay_in_marked(Edition::First, &mut header, &frame, &marks)?;
+/// assert_eq!(header, expected);
+/// let refused = lay_in_marked(Edition::First, &mut header, &frame, &[0xFF; 26]);
+/// assert_eq!((refused, header), (Err(Refusal::BeyondRepair), expected));
+/// # Ok::<(), Refusal>(())
+/// ```
+pub fn lay_in_marked(
+    edition: Edition,
+    header: &mut [u8],
+    frame: &[u8],
+    marks: &[u8],
+) -> Result<(), Refusal> {
+    told(calls::lay_in_marked(edition.number(), header, frame, marks)).map(|_| ())
+}
+
 /// Writes 204 ones instead of a header's frame. Refuses as [`read`] does; the header is then as it was.
 pub fn take_out(header: &mut [u8]) -> Result<(), Refusal> {
     told(calls::take_out(header)).map(|_| ())

@@ -26,7 +26,9 @@ mod tuner;
 pub use crc::crc32;
 pub use edition::Edition;
 pub use refusal::Refusal;
-pub use repair::{repair, repair_by_register, repair_into, Repaired};
+pub use repair::{
+    repair, repair_by_register, repair_into, repair_marked, repair_marked_into, Repaired,
+};
 pub use tuner::Tuner;
 
 /// The bytes of a frame.

@@ -30,10 +30,10 @@ macro_rules! refusals {
 }
 
 refusals! {
-    WrongLength = 1, "a frame is not 26 bytes, a header is not 188, a frame number is past the capture, or a buffer has another length than the one named";
+    WrongLength = 1, "a frame or its marks are not 26 bytes, a header is not 188, a frame number is past the capture, or a buffer has another length than the one named";
     FillerSet = 2, "a filler bit is 1";
     NoPattern = 3, "four bits or more of B1 to B16 differ from both patterns";
-    BeyondRepair = 4, "no code word lies within eight places";
+    BeyondRepair = 4, "no code word lies within eight places; with doubtful marks, none is as near as they ask";
     FrameCrc = 5, "the CRC differs, in the repaired word";
     Identification = 6, "the edition named does not have the identification: 4, in the first edition 5 and 6 too, and in a record those above 7";
     StartEndOrUpdate = 7, "start/end or update is not as the identification asks by the edition named";

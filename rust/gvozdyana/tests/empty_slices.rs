@@ -46,6 +46,34 @@ fn of_frames() {
     assert_eq!(calls::warned(&[], 15), WRONG_LENGTH);
 }
 
+/// The frame, its marks and the buffer, each of them empty, two of them, and all.
+#[test]
+fn of_marked_frames() {
+    let frame = write(Edition::First, &Record::no_information(5)).expect("legal");
+    let marks = [0; 26];
+    for (frame, marks) in [(&frame[..], &[][..]), (&[], &marks), (&[], &[])] {
+        let mut word = [7; 26];
+        assert_eq!(calls::repair_marked(frame, marks, &mut word), WRONG_LENGTH);
+        assert_eq!(word, [7; 26]);
+        assert_eq!(calls::repair_marked(frame, marks, &mut []), WRONG_LENGTH);
+        assert_eq!(calls::frame_judge_marked(frame, marks), WRONG_LENGTH);
+        for (edition, tuner) in EDITIONS.into_iter().flat_map(|e| TUNERS.map(|t| (e, t))) {
+            let read =
+                |left: &mut [u64]| calls::frame_read_marked(edition, tuner, frame, marks, left);
+            let mut left = [7; FRAME_VALUES];
+            assert_eq!(read(&mut left), WRONG_LENGTH);
+            assert_eq!(left, [7; FRAME_VALUES]);
+            assert_eq!(read(&mut []), WRONG_LENGTH);
+        }
+    }
+    let none = calls::repair_marked(&frame, &marks, &mut []);
+    assert_eq!(none, WRONG_LENGTH);
+    for (edition, tuner) in EDITIONS.into_iter().flat_map(|e| TUNERS.map(|t| (e, t))) {
+        let none = calls::frame_read_marked(edition, tuner, &frame, &marks, &mut []);
+        assert_eq!(none, WRONG_LENGTH);
+    }
+}
+
 #[test]
 fn of_places() {
     let record = Record::no_information(5).values();
@@ -98,6 +126,15 @@ fn of_headers() {
         assert_eq!(laid, legal);
         assert_eq!(calls::lay_in(edition, &mut [], &frame), WRONG_LENGTH);
         assert_eq!(calls::lay_in(edition, &mut [], &[]), WRONG_LENGTH);
+        let marks = [0; 26];
+        for (frame, marks) in [(&frame[..], &[][..]), (&[], &marks), (&[], &[])] {
+            let lay = |header: &mut [u8]| calls::lay_in_marked(edition, header, frame, marks);
+            assert_eq!(lay(&mut laid), WRONG_LENGTH);
+            assert_eq!(laid, legal);
+            assert_eq!(lay(&mut []), WRONG_LENGTH);
+        }
+        let none = calls::lay_in_marked(edition, &mut [], &frame, &marks);
+        assert_eq!(none, WRONG_LENGTH);
     }
     assert_eq!(calls::take_out(&mut []), WRONG_LENGTH);
     assert_eq!(calls::crc32(&[]), 0xFFFF_FFFF);

@@ -124,7 +124,7 @@ fn the_functions() {
     };
     let called = names(include_str!("../src/calls.rs"), "pub fn gvz_");
     assert_eq!(names(HEADER_FILE, "uint32_t gvz_"), called);
-    assert_eq!(called.len(), 15);
+    assert_eq!(called.len(), 19);
 }
 
 #[test]
@@ -311,6 +311,17 @@ fn the_parts_of_a_status() {
     let mut values = [0; FRAME_VALUES];
     let status = calls::frame_read(EDITION.number(), 1, &frame, &mut values);
     assert_eq!((status, values[19], values[20]), (1 << 16, 1, 2));
+    // B201 to B203 doubtful, and B200 hit: the one that is not marked is told.
+    let mut marks = [0; FRAME_BYTES];
+    marks[25] = 0x70;
+    frame[25] ^= 0x80;
+    assert_eq!(calls::repair_marked(&frame, &marks, &mut [0; 26]), 1 << 8);
+    let judged = calls::frame_judge_marked(&frame, &marks);
+    assert_eq!(judged, 1 << 16 | 1 << 8);
+    let read =
+        |values: &mut [u64]| calls::frame_read_marked(EDITION.number(), 2, &frame, &marks, values);
+    assert_eq!(read(&mut values), 1 << 16);
+    assert_eq!((values[19], values[20]), (2, 1));
 }
 
 /// A place's doubles and the desk's field values stand where the header file says.
