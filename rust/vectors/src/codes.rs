@@ -2,7 +2,7 @@
 use crate::{because, numbers, rows, status, Call, Case, Lends, Operation};
 use reference::code::{self, GENERATOR};
 use reference::crc::{crc10, crc32};
-use reference::{bit, flip_bit, get, put, repair};
+use reference::{bit, flip_bit, get, put, repair, Repaired};
 use std::ops::RangeInclusive;
 
 pub(crate) const OPERATIONS: [Operation; 10] = [
@@ -68,7 +68,7 @@ fn field(bytes: &[u8], at: u64, width: u64) -> Option<RangeInclusive<usize>> {
 }
 
 /// The parity of a frame's message into its place; all else stays, and so do bytes that are no frame.
-fn encode(frame: &mut [u8]) {
+pub(crate) fn encode(frame: &mut [u8]) {
     if frame.len() == 26 {
         let word = code::encode(&std::array::from_fn(|i| bit(frame, 17 + i)));
         let coded = code::frame_of(&word);
@@ -79,10 +79,14 @@ fn encode(frame: &mut [u8]) {
 }
 
 fn repaired(call: &mut Call) -> u64 {
-    if call.lent.len() != 26 {
-        return status(1, 0);
-    }
-    match repair(&call.input) {
+    let answer = repair(&call.input);
+    put_repaired(answer, call)
+}
+
+/// A repair's word into the lent bytes where they are 26, and its status.
+pub(crate) fn put_repaired(answer: Result<Repaired, u8>, call: &mut Call) -> u64 {
+    match answer {
+        _ if call.lent.len() != 26 => status(1, 0),
         Ok(found) => {
             call.lent.copy_from_slice(&found.word);
             status(0, found.places)
@@ -102,7 +106,7 @@ fn mixed(n: usize) -> Vec<u8> {
 }
 
 /// Some message, without its parity.
-fn message(seed: usize) -> [u8; 26] {
+pub(crate) fn message(seed: usize) -> [u8; 26] {
     let mut x = seed % 65_536;
     std::array::from_fn(|_| {
         x = (x * 75 + 74) % 65_537;
@@ -111,7 +115,7 @@ fn message(seed: usize) -> [u8; 26] {
 }
 
 /// n of the generator's 18 places set, from number i on and round again.
-fn generator_places(i: usize, n: usize) -> [u8; 26] {
+pub(crate) fn generator_places(i: usize, n: usize) -> [u8; 26] {
     let mut frame = [0; 26];
     for j in 0..n {
         flip_bit(&mut frame, 203 - GENERATOR[(i + j) % 18]);

@@ -6,14 +6,9 @@ use reference::frame::{BROADCASTER, IDENTIFICATION, LATITUDE, LONGITUDE, REPAIRE
 
 pub(crate) const OPERATIONS: [Operation; 3] = [
     lending("frame_read", |call| {
-        match frame::read(call.edition(), Tuner::named(call.numbers[1]), &call.input) {
-            _ if call.values.len() != VALUES => status(1, 0),
-            Ok((record, differing)) => {
-                call.values = record.to_vec();
-                65536 * u64::from(differing)
-            }
-            Err(number) => status(number, 0),
-        }
+        let tuner = Tuner::named(call.numbers[1]);
+        let answer = frame::read(call.edition(), tuner, &call.input);
+        put_record(answer, call)
     }),
     Operation {
         name: "warned",
@@ -38,6 +33,18 @@ pub(crate) const fn lending(name: &'static str, status: fn(&mut Call) -> u64) ->
         name,
         lends: Lends::Values,
         status,
+    }
+}
+
+/// A reading's record into the lent numbers where they are as many, and its status.
+pub(crate) fn put_record(answer: Result<(Record, u8), u8>, call: &mut Call) -> u64 {
+    match answer {
+        _ if call.values.len() != VALUES => status(1, 0),
+        Ok((record, differing)) => {
+            call.values = record.to_vec();
+            65536 * u64::from(differing)
+        }
+        Err(number) => status(number, 0),
     }
 }
 
@@ -253,14 +260,19 @@ eaf7000000000000000000000000000000000000000000000000 | 30000 1 0*20 | all areas 
 62f7000000000000000000000000000000000000000000000001 | 2 .. | a filler bit, and four bits from pattern 0
 ";
 
-/// The frames, and what they are.
-pub(crate) fn frames() -> impl Iterator<Item = (Vec<u8>, &'static str)> {
-    let safety = rows(SAFETY_FRAMES).map(|[digits, _, _, what]| (digits, what));
+/// The frames that both editions answer alike, each with what reading it answers, `-` where none is on record, and what it is.
+pub(crate) fn answers() -> impl Iterator<Item = (Vec<u8>, &'static str, &'static str)> {
     rows(FRAMES)
         .chain(rows(DAMAGED_PATTERNS))
-        .map(|[digits, _, what]| (digits, what))
+        .map(|[digits, answer, what]| (hex(digits), answer, what))
+}
+
+/// All frames, and what they are.
+pub(crate) fn frames() -> impl Iterator<Item = (Vec<u8>, &'static str)> {
+    let safety = rows(SAFETY_FRAMES).map(|[digits, _, _, what]| (hex(digits), what));
+    answers()
+        .map(|(frame, _, what)| (frame, what))
         .chain(safety)
-        .map(|(digits, what)| (hex(digits), what))
 }
 
 /// The frame whose description begins so.

@@ -4,6 +4,7 @@ mod codes;
 mod frames;
 mod headers;
 mod laying;
+mod marked;
 mod places;
 mod reading;
 mod receiver;
@@ -21,7 +22,7 @@ pub struct Program {
     cases: fn() -> Vec<Case>,
 }
 
-pub const PROGRAMS: [Program; 7] = [
+pub const PROGRAMS: [Program; 8] = [
     Program {
         name: "test_codes",
         operations: &codes::OPERATIONS,
@@ -56,6 +57,11 @@ pub const PROGRAMS: [Program; 7] = [
         name: "test_laying",
         operations: &laying::OPERATIONS,
         cases: laying::cases,
+    },
+    Program {
+        name: "test_marked",
+        operations: &marked::OPERATIONS,
+        cases: marked::cases,
     },
 ];
 
