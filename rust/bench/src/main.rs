@@ -1,6 +1,8 @@
 //! Times the proved version and the plain one on the same inputs, in one run: nanoseconds per call, and how many times as fast the proved
-//! one is. Frames are judged by the first edition. The only argument is the number of frames of each sort; of headers there are a tenth.
+//! one is. The functions that take doubtful marks are also timed beside those without marks. Frames are judged by the first edition. The only argument
+//! is the number of frames of each sort; of headers there are a tenth. A second argument, `marked`, asks for the rows with marks alone.
 mod listing;
+mod marked;
 
 use gvozdyana::frame::Record;
 use gvozdyana::header::Header;
@@ -16,6 +18,9 @@ use std::time::Instant;
 /// falls on neither.
 const STRETCH: usize = 500;
 
+/// With fewer stretches than this, which slow functions would have, they are shorter.
+const STRETCHES: usize = 20;
+
 fn nanoseconds_per_call<T>(inputs: &[T], call: &impl Fn(&T)) -> f64 {
     let start = Instant::now();
     for input in inputs {
@@ -29,7 +34,25 @@ fn middle(mut times: Vec<f64>) -> f64 {
     times[times.len() / 2]
 }
 
-/// Prints the row of a function on inputs that are made from the row's name.
+/// The times of two functions on the same inputs, which are made from the row's name.
+fn times<T>(
+    name: &str,
+    count: usize,
+    make: impl Fn(&mut Random) -> T,
+    first: impl Fn(&T),
+    second: impl Fn(&T),
+) -> (f64, f64) {
+    let mut random = Random::new(name.bytes().map(u64::from).sum());
+    let inputs: Vec<T> = (0..count.max(STRETCH)).map(|_| make(&mut random)).collect();
+    let (mut first_times, mut second_times) = (Vec::new(), Vec::new());
+    for stretch in inputs.chunks_exact(STRETCH.min(inputs.len() / STRETCHES)) {
+        first_times.push(nanoseconds_per_call(stretch, &first));
+        second_times.push(nanoseconds_per_call(stretch, &second));
+    }
+    (middle(first_times), middle(second_times))
+}
+
+/// Prints the row of a function.
 fn row<T>(
     name: &str,
     count: usize,
@@ -37,14 +60,7 @@ fn row<T>(
     proved: impl Fn(&T),
     plain: impl Fn(&T),
 ) {
-    let mut random = Random::new(name.bytes().map(u64::from).sum());
-    let inputs: Vec<T> = (0..count.max(STRETCH)).map(|_| make(&mut random)).collect();
-    let (mut proved_times, mut plain_times) = (Vec::new(), Vec::new());
-    for stretch in inputs.chunks_exact(STRETCH) {
-        proved_times.push(nanoseconds_per_call(stretch, &proved));
-        plain_times.push(nanoseconds_per_call(stretch, &plain));
-    }
-    let (proved, plain) = (middle(proved_times), middle(plain_times));
+    let (proved, plain) = times(name, count, make, proved, plain);
     println!(
         "{name:<28} {proved:>12.0} {plain:>12.0} {:>8.2}",
         plain / proved
@@ -221,9 +237,13 @@ fn header_rows(count: usize) {
 }
 
 fn main() {
-    let count: usize = std::env::args().nth(1).map_or(100_000, |n| {
+    let mut arguments = std::env::args().skip(1);
+    let count: usize = arguments.next().map_or(100_000, |n| {
         n.parse().expect("the number of frames of each sort")
     });
+    if arguments.next().is_some_and(|which| which == "marked") {
+        return marked::rows(count);
+    }
     println!(
         "{:<28} {:>12} {:>12} {:>8}",
         "ns per call", "proved", "plain", "ratio"
@@ -233,4 +253,5 @@ fn main() {
     place_rows(count);
     header_rows(count / 10);
     listing::rows(10 * count, |random| legal_frame(0, random));
+    marked::rows(count);
 }
