@@ -30,7 +30,7 @@ extern "C" {
 #define GVZ_VERSION_MAJOR 0
 #define GVZ_VERSION_MINOR 5
 #define GVZ_VERSION_PATCH 0
-#define GVZ_VERSION "0.5.0"
+#define GVZ_VERSION "0.6.0"
 
 /* ---- Refusals */
 

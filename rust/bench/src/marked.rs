@@ -5,7 +5,7 @@ use plain::frame::{Edition as PlainEdition, Tuner as PlainTuner};
 use reference as plain;
 use reference::code::{encode, GENERATOR, LENGTH};
 use reference::set_bit;
-use samples::marked::{of_body, of_word, split, Damage, Sample, Under};
+use samples::marked::{of_body, of_word, pairs, split, Damage, Sample, Under};
 use samples::records::bodies;
 use samples::{code_word, headers, hit, sent_and_hit, Random};
 use std::hint::black_box;
@@ -100,7 +100,8 @@ fn refused((frame, marks): Marked) -> Marked {
 type Make = fn(&mut Random) -> Marked;
 
 /// Words by what the repair has to do for them.
-const SORTS: [(&str, Make); 10] = [
+const SORTS: [(&str, Make); 11] = [
+    ("2t+s of 0 to 20", any_pair),
     ("no hit, no mark", |random| unmarked(0, random)),
     ("4 hits, no mark", |random| unmarked(4, random)),
     ("8 hits, no mark", |random| unmarked(8, random)),
@@ -116,14 +117,30 @@ const SORTS: [(&str, Make); 10] = [
     ("beyond, near both fillings", near_both_fillings),
 ];
 
+/// Any t and s with a 2t+s of up to 20.
+fn any_pair(random: &mut Random) -> Marked {
+    let pairs = pairs(0..=20);
+    let pair = random.pick(&pairs);
+    damaged(pair, random)
+}
+
+fn head(beside: &str) {
+    println!(
+        "{:<28} {:>12} {beside:>12} {:>8}",
+        "ns per call", "marked", "ratio"
+    );
+}
+
+fn ratio_row(name: &str, (marked, beside): (f64, f64)) {
+    let ratio = marked / beside;
+    println!("{name:<28} {marked:>12.1} {beside:>12.1} {ratio:>8.2}");
+}
+
 /// The repair with marks and the one without, which does not look at them, on the same words: how many times as long the first takes.
 fn repair_rows(count: usize) {
-    println!(
-        "{:<28} {:>12} {:>12} {:>8}",
-        "ns per call", "marked", "repair", "ratio"
-    );
+    head("repair");
     for (name, make) in SORTS {
-        let (marked, repair) = times(
+        let both = times(
             name,
             count,
             make,
@@ -134,8 +151,39 @@ fn repair_rows(count: usize) {
                 black_box(gvozdyana::repair(frame)).ok();
             },
         );
-        let ratio = marked / repair;
-        println!("{name:<28} {marked:>12.1} {repair:>12.1} {ratio:>8.2}");
+        ratio_row(name, both);
+    }
+}
+
+/// The frame with the bits under its marks all 0, and all 1.
+fn fillings((frame, marks): &Marked) -> [[u8; 26]; 2] {
+    [
+        std::array::from_fn(|i| frame[i] & !marks[i]),
+        std::array::from_fn(|i| frame[i] | marks[i]),
+    ]
+}
+
+/// The same beside the repair of the words that it may have to repair, those with 0 and with 1 under the marks: the time of one of them, in the middle.
+fn filling_rows(count: usize) {
+    head("a filling");
+    for (name, make) in SORTS {
+        let (marked, twice) = times(
+            name,
+            count,
+            |random| {
+                let marked = make(random);
+                (marked, fillings(&marked))
+            },
+            |((frame, marks), _)| {
+                black_box(gvozdyana::repair_marked(frame, marks)).ok();
+            },
+            |(_, fillings)| {
+                for filling in fillings {
+                    black_box(gvozdyana::repair(filling)).ok();
+                }
+            },
+        );
+        ratio_row(name, (marked, twice / 2.0));
     }
 }
 
@@ -225,11 +273,12 @@ fn header_rows(count: usize) {
 
 /// The reader with marks beside the one without, on the same frames.
 fn reader_rows(count: usize) {
+    head("read");
     for (name, hits) in [
         ("frame read, no hit, no mark", 0),
         ("frame read, 4 hits", 4),
     ] {
-        let (marked, read) = times(
+        let both = times(
             name,
             count,
             |random| (legal_frame(hits, random), [0; 26]),
@@ -241,14 +290,16 @@ fn reader_rows(count: usize) {
                 black_box(frame::read(Edition::First, Tuner::Main, bytes)).ok();
             },
         );
-        let ratio = marked / read;
-        println!("{name:<28} {marked:>12.1} {read:>12.1} {ratio:>8.2}");
+        ratio_row(name, both);
     }
 }
 
 pub fn rows(count: usize) {
     println!("\nwith doubtful marks, beside the same without marks: how many times as long");
     repair_rows(count);
+    println!();
+    filling_rows(count);
+    println!();
     reader_rows(count);
     println!("\nwith doubtful marks, beside the plain version");
     println!(
