@@ -15,7 +15,8 @@ use Rattle.dsc.specs.Code.{powers, CodeWord, weight, dist}
 use Rattle.dsc.specs.Repair.{protected, wordBytes, repairedTo, refusedWith, numberOf, repairOf}
 use Rattle.dsc.specs.Marks.{filled, unmarkedIn, unmarkedDist, Few, markedRepairOf, marked, whole}
 use Rattle.dsc.specs.Worked.{generatorWord, firstPlaces, nextPlace, MarkedWorked}
-use Rattle.dsc.specs.Promises.{RefusedOrWrong, refused, wrong, HitMarked, NoneFew, DoubtfulMarks}
+use Rattle.dsc.specs.Promises.{RefusedOrWrong, refused, wrong, HitMarked, NoneFew, FoundOrNone, DoubtfulMarks}
+use Rattle.dsc.specs.Promises as promises
 use Rattle.dsc.specs.declared.Answer.{Answer}
 use Rattle.dsc.proofs.Word.{length-word}
 use Rattle.dsc.proofs.Weight.{weight-zeros}
@@ -57,6 +58,13 @@ by-cases f m P short few far = go (whole (marked m) f) refl
     go : (t : Bool) → whole (marked m) f ≡ t → P (markedRepairOf f m)
     go false e = subst P (sym (marked-short f m e)) (short e)
     go true e = full e (marked-repair-nearest f m e)
+
+answered : (f m : List ℕ) → whole (marked m) f ≡ true → FoundOrNone (protected m) (protected f) (markedRepairOf f m)
+answered f m w = go (marked-repair-nearest f m w)
+  where
+    go : MarkedNearest (protected m) (protected f) → FoundOrNone (protected m) (protected f) (markedRepairOf f m)
+    go (one c k d) = promises.found c k d (marked-repair-found f m w c k d)
+    go (none n) = promises.none n (marked-repair-none f m w n)
 
 short-if-refused : (f m : List ℕ) → numberOf (markedRepairOf f m) ≡ 1 → (length f ≢ 26) ⊎ (length m ≢ 26)
 short-if-refused f m =
@@ -145,6 +153,7 @@ module _ {t s : ℕ} {c e : List Bool} {f m : List ℕ} (h : HitMarked t s c e f
 pub doubtful-marks : DoubtfulMarks
 doubtful-marks =
     record {
+      answered = λ f m hf hm. answered f m (sized-whole (marked m) f hf hm);
       found = λ f m c hf hm. marked-repair-found f m (sized-whole (marked m) f hf hm) c;
       apart = λ ms r c d hm h. marked-apart ms r hm h c d;
       only-one = λ ms r c d hm h. marked-only-one ms r hm h c d;
@@ -198,7 +207,7 @@ marked-worked =
       sixteen-and-one =
           only-refused (marks-held 1 16 (zeros 187) (nextPlace 16) (nextPlace 16) (firstPlaces 16) zero refl refl refl refl refl refl) (omega arith) (λ u p q. omega arith);
       fifteen-and-one = sent-word (marks-held 1 15 (zeros 187) (nextPlace 15) (nextPlace 15) (firstPlaces 15) zero refl refl refl refl refl refl) (omega arith);
-      eighteen =
+      eighteen-marks =
           only-refused (marks-held 0 18 (zeros 187) (zeros 187) (zeros 187) (firstPlaces 18) zero refl refl refl refl refl refl) (omega arith) (λ u p q. omega arith);
     }
   where

@@ -6,14 +6,13 @@ use mathlib.Core.List.{List, [], _∷_, _++_, map, List·Memᴰ, List·Memᴰ·h
 use Prim.Native.Nat.{ℕ, zero, suc, _+_, _-_, _*_, _/_, _≤_}
 use native.Mathlib.Nat.{suc-inj}
 use native.Mathlib.Omega.{arith}
-use lib.Dec.{ltb}
 use lib.ListN.{length}
 use borrow.Author.Tests.{ltb-true, ltb-false}
 use Rattle.bits.specs.Bits.{digit}
 use Rattle.gf2.specs.Polynomial.{_⊕_, add, zeros}
 use Rattle.dsc.specs.Code.{CodeWord, weight, dist, isCodeWord}
 use Rattle.dsc.specs.Repair.{ball, Decoded, corrected, beyond, firstCodeWord}
-use Rattle.dsc.specs.Marks.{filled, unmarkedIn, unmarkedDist, Few, markedBall, candidates, decodeMarked}
+use Rattle.dsc.specs.Marks.{filled, unmarkedIn, unmarkedDist, Few, markedBall, radius, overMarked, candidates, decodeMarked}
 use Rattle.dsc.proofs.Word.{length-word, word-tested, tested-word}
 use Rattle.dsc.proofs.Distance.{dist-triangle, close-equal}
 use Rattle.dsc.proofs.Decoding.{All, all-append, all-map, all-weaker, mem-map, ball-within, in-ball, isFound, first-found, first-none, first-code-word}
@@ -118,30 +117,28 @@ module _ (ms r : List Bool) (hm : length ms ≡ 187) (h : length r ≡ 187) wher
   pub marked-only-one : (c d : List Bool) → CodeWord c → CodeWord d → Few ms (unmarkedDist ms r c) → Few ms (unmarkedDist ms r d) → c ≡ d
   marked-only-one c d kc kd hc hd = close-equal c d kc kd (omega (arith, marked-apart c d kc kd))
 
-  -- how many unmarked places the words of the list may differ in
-  abbrev radius : ℕ
-  radius = (17 - weight ms) / 2
-
-  searched : weight ms ≤ 17 → candidates ms r ≡ markedBall radius ms r
-  unfolding candidates
-  searched l = go (ltb 17 (weight ms)) refl
-    where
-      go : (t : Bool) → ltb 17 (weight ms) ≡ t → cond t [] (markedBall radius ms r) ≡ markedBall radius ms r
-      go true q = absurd (omega (arith, ltb-true 17 (weight ms) q))
-      go false q = refl
+  not-over : overMarked ms ≡ false → weight ms ≤ 17
+  not-over q = let l = ltb-false _ (weight ms) q in omega arith
 
   -- the words of the list are those with 2t+s at most 17
   all-few : All (λ w. (length w ≡ length r) × Few ms (unmarkedDist ms r w)) (candidates ms r)
   unfolding candidates
-  all-few = go (ltb 17 (weight ms)) refl
+  all-few = go (overMarked ms) refl
     where
-      go : (t : Bool) → ltb 17 (weight ms) ≡ t
-          → All (λ w. (length w ≡ length r) × Few ms (unmarkedDist ms r w)) (cond t [] (markedBall radius ms r))
+      go : (t : Bool) → overMarked ms ≡ t → All (λ w. (length w ≡ length r) × Few ms (unmarkedDist ms r w)) (cond t [] (markedBall (radius ms) ms r))
       go true q = tt
       go false q =
-          let l = ltb-false 17 (weight ms) q in
-          all-weaker (Within radius ms r) (λ w. (length w ≡ length r) × Few ms (unmarkedDist ms r w)) (markedBall radius ms r)
-          (λ w n. (n .0, omega (arith, n .1))) (marked-within radius ms r)
+          let l = not-over q in
+          all-weaker (Within (radius ms) ms r) (λ w. (length w ≡ length r) × Few ms (unmarkedDist ms r w)) (markedBall (radius ms) ms r)
+          (λ w n. (n .0, omega (arith, n .1))) (marked-within (radius ms) ms r)
+
+  searched : weight ms ≤ 17 → candidates ms r ≡ markedBall (radius ms) ms r
+  unfolding candidates
+  searched l = go (overMarked ms) refl
+    where
+      go : (t : Bool) → overMarked ms ≡ t → cond t [] (markedBall (radius ms) ms r) ≡ markedBall (radius ms) ms r
+      go true q = absurd (omega (arith, ltb-true _ (weight ms) q))
+      go false q = refl
 
   pub marked-none : ((c : List Bool) → CodeWord c → Few ms (unmarkedDist ms r c) → ⊥) → decodeMarked ms r ≡ beyond
   unfolding decodeMarked
@@ -154,11 +151,11 @@ module _ (ms r : List Bool) (hm : length ms ≡ 187) (h : length r ≡ 187) wher
   unfolding decodeMarked
   marked-found c k d =
       first-found c (candidates ms r) (word-tested c k)
-      (subst (List·Memᴰ c) (sym (searched (omega arith))) (in-marked radius ms r c (length-word c k ∙ sym h, near)))
+      (subst (List·Memᴰ c) (sym (searched (omega arith))) (in-marked (radius ms) ms r c (length-word c k ∙ sym h, near)))
       (all-weaker (λ w. (length w ≡ length r) × Few ms (unmarkedDist ms r w)) (λ w. isCodeWord w ≡ true → w ≡ c) (candidates ms r)
       (λ w n t. marked-only-one w c (tested-word w (n .0 ∙ h) t) k (n .1) d) all-few)
     where
-      near : unmarkedDist ms r c ≤ radius
+      near : unmarkedDist ms r c ≤ radius ms
       near = omega arith
 
 -- ---- so there is such a code word, or there is none

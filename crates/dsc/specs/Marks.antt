@@ -7,9 +7,20 @@ use Prim.Native.Nat.{ℕ, zero, suc, _+_, _-_, _*_, _/_, _≤_}
 use lib.Dec.{eqb, ltb}
 use lib.ListN.{length}
 use Rattle.gf2.specs.Polynomial.{add}
-use Rattle.dsc.specs.Code.{weight, dist}
+use Rattle.dsc.specs.Code.{weight}
 use Rattle.dsc.specs.Repair.{protected, ball, Decoded, corrected, beyond, firstCodeWord, repairedTo, refusedWith, repairOf}
 use Rattle.dsc.specs.declared.Answer.{Answer}
+
+-- ---- a frame that comes with marks or without
+
+pub data Marking : Type 0 where
+  unmarked : Marking
+  marked : List ℕ → Marking
+
+-- the frame has 26 bytes, and the marks too
+abbrev pub whole : Marking → List ℕ → Bool
+whole unmarked f = eqb (length f) 26
+whole (marked m) f = eqb (length f) 26 && eqb (length m) 26
 
 -- ---- marks: a bit for each bit of a word, 1 where that is doubtful
 
@@ -41,9 +52,17 @@ markedBall t (true ∷ ms) (b ∷ w) = map (false ∷_) (markedBall t ms w) ++ m
 markedBall zero (false ∷ ms) (b ∷ w) = map (b ∷_) (markedBall zero ms w)
 markedBall (suc t) (false ∷ ms) (b ∷ w) = map (b ∷_) (markedBall (suc t) ms w) ++ map (not b ∷_) (markedBall t ms w)
 
--- the words with 2t+s at most 17: t is at most (17 - s)/2, and there is none where s is over 17
+-- t is at most (17 - s)/2
+abbrev pub radius : (marks : List Bool) → ℕ
+radius ms = (17 - weight ms) / 2
+
+-- s is over 17
+abbrev pub overMarked : (marks : List Bool) → Bool
+overMarked ms = ltb 17 (weight ms)
+
+-- the words with 2t+s at most 17; there is none where s is over 17
 unfoldable pub candidates : (marks r : List Bool) → List (List Bool)
-candidates ms r = cond (ltb 17 (weight ms)) [] (markedBall ((17 - weight ms) / 2) ms r)
+candidates ms r = cond (overMarked ms) [] (markedBall (radius ms) ms r)
 
 -- the code word among them, if there is one
 unfoldable pub decodeMarked : (marks r : List Bool) → Decoded
@@ -58,24 +77,15 @@ markedAnswer ms r beyond = refusedWith 4
 -- what the box answers, for any bytes of a frame and of its marks
 unfoldable pub markedRepairOf : (frame marks : List ℕ) → Answer
 markedRepairOf f m =
-    cond (eqb (length f) 26 && eqb (length m) 26)
+    cond (whole (marked m) f)
     (markedAnswer (protected m) (protected f) (decodeMarked (protected m) (protected f))) (refusedWith 1)
 
--- ---- a frame that comes with marks or without
-
-pub data Marking : Type 0 where
-  unmarked : Marking
-  marked : List ℕ → Marking
+-- ---- both repairs
 
 -- the repair: demand 3's where no marks come with the frame
 abbrev pub repairBy : Marking → List ℕ → Answer
 repairBy unmarked f = repairOf f
 repairBy (marked m) f = markedRepairOf f m
-
--- the frame has 26 bytes, and the marks too
-abbrev pub whole : Marking → List ℕ → Bool
-whole unmarked f = eqb (length f) 26
-whole (marked m) f = eqb (length f) 26 && eqb (length m) 26
 
 -- the marks, where there are any, have 26 bytes
 abbrev pub MarksSized : Marking → Type 0

@@ -100,7 +100,14 @@ AfterMarks t s Q = (f m : List ℕ) (c e : List Bool) → HitMarked t s c e f m 
 abbrev pub NoneFew : (marks r : List Bool) → Type 0
 NoneFew ms r = (c : List Bool) → CodeWord c → Few ms (unmarkedDist ms r c) → ⊥
 
+-- the answer a is a code word with 2t+s at most 17 and its own t, or there is none and a is refusal 4
+pub data FoundOrNone (ms r : List Bool) (a : Answer) : Type 0 where
+  found : (c : List Bool) → CodeWord c → Few ms (unmarkedDist ms r c) → a ≡ repairedTo c (unmarkedDist ms r c) → FoundOrNone ms r a
+  none : NoneFew ms r → a ≡ refusedWith 4 → FoundOrNone ms r a
+
 pub record DoubtfulMarks : Type 0 where
+  -- whatever a frame and marks of 26 bytes hold, the answer is such a word or refusal 4
+  pub answered : (f m : List ℕ) → length f ≡ 26 → length m ≡ 26 → FoundOrNone (protected m) (protected f) (markedRepairOf f m)
   -- a code word that differs in t unmarked places, with 2t+s at most 17, is the answer, and t the count
   pub found : (f m : List ℕ) (c : List Bool) → length f ≡ 26 → length m ≡ 26 → CodeWord c → Few (protected m) (unmarkedDist (protected m) (protected f) c)
       → markedRepairOf f m ≡ repairedTo c (unmarkedDist (protected m) (protected f) c)

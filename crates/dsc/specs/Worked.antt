@@ -49,7 +49,8 @@ pub record Worked : Type 0 where
 unfoldable pub nextPlace : ℕ → List Bool
 nextPlace n = poly 187 (take 1 (drop n powers))
 
--- marks on the generator's n highest places, where zeros are received, or zeros with a 1 in the place that comes next
+-- marks on the generator's n highest places, where zeros are received, or zeros with a 1 in the place that comes next; that the bits under marks and
+-- marks elsewhere do not matter is said of all frames (`DoubtfulMarks`)
 pub record MarkedWorked : Type 0 where
   -- 17 marks: the zero word, and with the last place received as 1 the generator; nothing unmarked differs from either
   pub seventeen : markedRepairOf (wordBytes (zeros 187)) (wordBytes (firstPlaces 17)) ≡ repairedTo (zeros 187) 0
@@ -58,4 +59,4 @@ pub record MarkedWorked : Type 0 where
   pub sixteen-and-one : markedRepairOf (wordBytes (nextPlace 16)) (wordBytes (firstPlaces 16)) ≡ refusedWith 4
   pub fifteen-and-one : markedRepairOf (wordBytes (nextPlace 15)) (wordBytes (firstPlaces 15)) ≡ repairedTo (zeros 187) 1
   -- 18 marks: refusal 4
-  pub eighteen : markedRepairOf (wordBytes (zeros 187)) (wordBytes (firstPlaces 18)) ≡ refusedWith 4
+  pub eighteen-marks : markedRepairOf (wordBytes (zeros 187)) (wordBytes (firstPlaces 18)) ≡ refusedWith 4

@@ -20,7 +20,7 @@ use Rattle.dsc.proofs.DoubtfulMarks.{doubtful-marks}
 use Rattle.sync_pattern.specs.Pattern.{syncOf, syncNumber}
 use Rattle.sync_pattern.specs.declared.Sync.{Sync}
 use Rattle.frame.specs.Read.{syncBits, syncIn, afterRepair, refusalBy, placesBy, judgeBy, readBy, cleanBy, cleanedBy}
-use Rattle.frame.specs.Promises.{SameOutside, SameAnswers, MarkedFrames}
+use Rattle.frame.specs.Promises.{SameOutside, SameAnswers, MarkedReading}
 use Rattle.frame.specs.declared.Edition.{Edition}
 
 -- a marking under which a frame is not whole gives refusal 1
@@ -63,7 +63,7 @@ under-marks ed m f g l o y e =
     same-answers ed (marked m) (marked m) f g (ap (λ (k : ℕ). eqb k 26 && eqb (length m) 26) l) (ap (λ (b : List Bool). value (take 4 b)) (o .filler)) (ap syncOf y)
     (ap value (o .reference)) (doubtful-marks .under-marks f g m l e)
 
-pub marked-frames : (ed : Edition) → MarkedFrames ed
+pub marked-frames : (ed : Edition) → MarkedReading ed
 marked-frames ed =
     record {
       short-marks = λ m f n. refused-size ed (marked m) f (marks-short m f n);

@@ -15,14 +15,15 @@ use Rattle.bits.proofs.Bits.{length-bits, length-bytes, bytes-bits, bytes-Bytes
 use Rattle.gf2.specs.Polynomial.{zeros, add}
 use Rattle.sync_pattern.specs.Pattern.{patternBits, differingFrom, syncOf}
 use Rattle.dsc.specs.Marks.{Marking, unmarked, repairBy}
-use Rattle.frame.specs.Read.{identificationIn, refusalBy, judgeBy, readBy, readOf, cleanBy, cleanOf}
-use Rattle.frame.specs.Promises.{NotSafety, ComesBack}
+use Rattle.frame.specs.Read.{identificationIn, refusalBy, judgeBy, readBy, readOf, cleanBy, cleanedBy, cleanOf}
+use Rattle.frame.specs.Promises.{NotSafety, ComesBack, SameAnswers}
 use Rattle.frame.specs.declared.Edition.{Edition}
 use Rattle.frame.specs.Write.{frameOf, Legal}
 use Rattle.frame.specs.declared.Tuner.{Tuner}
 use Rattle.frame.specs.declared.Tuner.the-variants.{None}
 use Rattle.frame.specs.declared.Record.{Record}
 use Rattle.frame.specs.declared.Verdict.{Verdict}
+use Rattle.frame.specs.declared.Cleaned.{Cleaned}
 use Rattle.frame.specs.declared.Reading.the-variants.{Accepted}
 use Rattle.frame.proofs.Parts.{take-drop-take}
 use Rattle.frame.proofs.Frames.{parts-frame}
@@ -213,6 +214,31 @@ laid-twice ed q p h f g e k =
     ∙ withAc-again h (repairedBits q f) (size h a) (length-repaired q f) (repairedBits p g)
     ∙ sym (laid-with ed p h g (then-frame ed p h g a ∙ k))
 
+-- frames that are answered alike are laid in alike
+laid-same : (ed : Edition) (q p : Marking) (h f g : List ℕ) → SameAnswers ed q f ed p g
+    → (layInNumber ed q h f ≡ layInNumber ed p h g) × (layInOf ed q h f ≡ layInOf ed p h g)
+unfolding layInNumber judgeBy cleanedBy
+laid-same ed q p h f g same = (ap (orElse (headerRefusal h)) number, go (eqb (layInNumber ed q h f) 0) refl)
+  where
+    number : refusalBy ed q f ≡ refusalBy ed p g
+    number = ap (λ (v : Verdict). v .number) (same .judged)
+
+    cleaned : refusalBy ed q f ≡ 0 → cleanBy q f ≡ cleanBy p g
+    cleaned e =
+        ap (λ (t : Bool). cond t (cleanBy q f) (replicate 26 0)) (sym (eq-eqb (refusalBy ed q f) 0 e))
+        ∙ ap (λ (c : Cleaned). c .frame) (same .cleaned)
+        ∙ ap (λ (t : Bool). cond t (cleanBy p g) (replicate 26 0)) (eq-eqb (refusalBy ed p g) 0 (sym number ∙ e))
+
+    go : (t : Bool) → eqb (layInNumber ed q h f) 0 ≡ t → layInOf ed q h f ≡ layInOf ed p h g
+    go true y =
+        let z = eqb-true (layInNumber ed q h f) 0 y in
+        laid-with ed q h f z
+        ∙ ap (λ (c : List ℕ). withAc h (take 204 (bits c))) (cleaned (laid-none ed q h f z .1))
+        ∙ sym (laid-with ed p h g (sym (ap (orElse (headerRefusal h)) number) ∙ z))
+    go false y =
+        let z = eqb-false (layInNumber ed q h f) 0 y in
+        laid-unchanged ed q h f z ∙ sym (laid-unchanged ed p h g (λ e. z (ap (orElse (headerRefusal h)) number ∙ e)))
+
 -- an undamaged frame is laid in as it stands
 pub laid-own : (ed : Edition) (h : List ℕ) (r : Record) → headerRefusal h ≡ 0 → Legal ed r
     → layInOf ed unmarked h (frameOf ed r) ≡ withAc h (take 204 (bits (frameOf ed r)))
@@ -239,5 +265,6 @@ laying ed q =
       header-first = header-first ed q;
       then-frame = then-frame ed q;
       laid-unchanged = laid-unchanged ed q;
+      laid-same = laid-same ed q;
       laid-alike = alike ed q;
     }

@@ -10,7 +10,7 @@ use Rattle.bits.specs.Bits.{bits, bytes, Bytes}
 use Rattle.gf2.specs.Polynomial.{zeros}
 use Rattle.dsc.specs.Marks.{Marking, repairBy}
 use Rattle.frame.specs.Read.{identificationIn, readBy, readOf, refusalBy}
-use Rattle.frame.specs.Promises.{NotSafety, ComesBack}
+use Rattle.frame.specs.Promises.{NotSafety, ComesBack, SameAnswers}
 use Rattle.frame.specs.declared.Edition.{Edition}
 use Rattle.sync_pattern.specs.Pattern.{patternBits}
 use Rattle.frame.specs.declared.Tuner.{Tuner}
@@ -53,6 +53,10 @@ pub record Laying (ed : Edition) (q : Marking) : Type 0 where
   pub then-frame : (h f : List ℕ) → headerRefusal h ≡ 0 → layInNumber ed q h f ≡ refusalBy ed q f
   -- a refusal changes nothing
   pub laid-unchanged : (h f : List ℕ) → layInNumber ed q h f ≢ 0 → layInOf ed q h f ≡ h
+  -- a frame that is answered as another one is laid in as that one: so marks outside B17 to B203 do not matter, nor do the bits under marks, and with no mark set it
+  -- is laid in as without marks (`marked-frames` of `frame`)
+  pub laid-same : (p : Marking) (h f g : List ℕ) → SameAnswers ed q f ed p g
+      → (layInNumber ed q h f ≡ layInNumber ed p h g) × (layInOf ed q h f ≡ layInOf ed p h g)
   -- which edition is named does not matter to a frame whose repaired identification is not 5 or 6
   pub laid-alike : (other : Edition) (h f : List ℕ) → NotSafety (identificationIn (repairBy q f .word))
       → (layInNumber ed q h f ≡ layInNumber other q h f) × (layInOf ed q h f ≡ layInOf other q h f)

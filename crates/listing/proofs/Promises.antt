@@ -7,16 +7,16 @@ use native.Mathlib.Omega.{arith}
 use lib.ListN.{length, take, drop, length-append, length-drop}
 use lib.Seq.{take-all, take-append-le, drop-append-le, take-at, drop-at}
 use borrow.Author.Tests.{ne-eqb}
-use Rattle.dsc.specs.Marks.{whole}
+use Rattle.dsc.specs.Marks.{marked, whole}
 use Rattle.dsc.proofs.MarkedAnswers.{marks-short}
 use Rattle.frame.specs.Read.{judgeBy, placesBy}
 use Rattle.frame.specs.declared.Edition.{Edition}
 use Rattle.frame.specs.declared.Verdict.{Verdict}
-use Rattle.frame.proofs.Marks.{refused-size}
+use Rattle.frame.proofs.Marks.{refused-size, marked-frames}
 use Rattle.frame.proofs.Editions.{editions}
 use Rattle.decimals.specs.Decimal.{decimal, digits}
 use Rattle.listing.specs.Lines.{pieceSize, frameIn, markingIn, verdictOf, lineOf, endLine, pieceCount, lines, listingOf}
-use Rattle.listing.specs.Promises.{Listing, NoneSafety}
+use Rattle.listing.specs.Promises.{MarkedListing, Listing, NoneSafety}
 use Rattle.listing.specs.declared.Pieces.{Pieces}
 use Rattle.listing.specs.declared.Pieces.the-variants.{Frames, MarkedFrames}
 use Rattle.listing.proofs.Counts.{count-none, count-least, count-two, whole-next}
@@ -44,6 +44,14 @@ two-end = refl
 by-size : (p : Pieces) (s : List ℕ) → length s < pieceSize p → whole (markingIn p s) (frameIn p s) ≡ false
 by-size Frames s h = ne-eqb (length s) 26 (λ e. omega arith)
 by-size MarkedFrames s h = marks-short (drop 26 s) (take 26 s) (λ e. omega (arith, length-drop 26 s))
+
+pub marked-listing-laws : (ed : Edition) → MarkedListing ed
+unfolding verdictOf
+marked-listing-laws ed =
+    record {
+      no-marks = λ f m hf hm e.
+          ap₂ (λ (n g : List ℕ). judgeBy ed (marked n) g) (drop-at f m 26 hf) (take-at f m 26 hf) ∙ marked-frames ed .no-marks m f hm e .judged;
+    }
 
 module _ (ed : Edition) (p : Pieces) where
   empty : listingOf ed p [] ≡ 101 ∷ 110 ∷ 100 ∷ 32 ∷ 48 ∷ 10 ∷ []

@@ -5,12 +5,15 @@ use mathlib.Core.List.{List, [], _∷_, _++_}
 use Prim.Native.Nat.{ℕ, zero, suc, _+_, _*_, _≤_, _<_}
 use lib.ListN.{length, take, drop}
 use Rattle.decimals.specs.Decimal.{decimal}
+use Rattle.gf2.specs.Polynomial.{zeros}
+use Rattle.dsc.specs.Repair.{protected}
 use Rattle.dsc.specs.Marks.{repairBy}
 use Rattle.frame.specs.Promises.{NotSafety}
 use Rattle.frame.specs.Read.{identificationIn}
 use Rattle.frame.specs.declared.Edition.{Edition}
 use Rattle.listing.specs.Lines.{pieceSize, frameIn, markingIn, verdictOf, lines, lineOf, listingOf}
 use Rattle.listing.specs.declared.Pieces.{Pieces}
+use Rattle.listing.specs.declared.Pieces.the-variants.{Frames, MarkedFrames}
 
 -- no one of the first k pieces of s has the repaired identification 5 or 6
 unfoldable pub NoneSafety : Pieces → ℕ → List ℕ → Type 0
@@ -18,6 +21,11 @@ NoneSafety p zero s = Unit {0}
 NoneSafety p (suc k) s =
     let f = take (pieceSize p) s in
     NotSafety (identificationIn (repairBy (markingIn p f) (frameIn p f) .word)) × NoneSafety p k (drop (pieceSize p) s)
+
+-- a marked frame beside the frame alone
+pub record MarkedListing (ed : Edition) : Type 0 where
+  -- a frame with no mark on B17 to B203 is judged, and so listed, as the frame without marks
+  pub no-marks : (f m : List ℕ) → length f ≡ 26 → length m ≡ 26 → protected m ≡ zeros 187 → verdictOf ed MarkedFrames (f ++ m) ≡ verdictOf ed Frames f
 
 pub record Listing (ed : Edition) (p : Pieces) : Type 0 where
   -- empty input gives `end 0`
