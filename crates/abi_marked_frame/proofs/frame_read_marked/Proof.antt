@@ -41,8 +41,11 @@ returns-2 c =
     let tuner = c .before .before .before .before .before .before .tuner-of in
     let named : edition .result ≡ editionOf (s .edition) = edition .ensures in
     let told : tuner .result ≡ tunerOf (s .tuner) = tuner .ensures in
-    read-told _ (marked (s .marks .now)) _ _ _ (c .before .before .before .before .before .before .before .if1 .left)
-    (c .before .before .before .before .read-marked .ensures ∙ ap₂ (λ (e : Edition) (t : Tuner). readBy e (marked (s .marks .now)) t (s .frame .now)) named told) (c .before .before .put-reading .ensures)
+    let q = marked (s .marks .now) in
+    let read : c .before .before .before .before .read-marked .result ≡ readBy (edition .result) q (tuner .result) (s .frame .now) =
+    c .before .before .before .before .read-marked .ensures in
+    read-told _ q _ _ _ (c .before .before .before .before .before .before .before .if1 .left)
+    (read ∙ ap₂ (λ (e : Edition) (t : Tuner). readBy e q t (s .frame .now)) named told) (c .before .before .put-reading .ensures)
 
 pub frame-read-marked-spec : {M : Type 1} → statement M
 frame-read-marked-spec =
