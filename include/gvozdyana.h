@@ -28,7 +28,7 @@ extern "C" {
 #endif
 
 #define GVZ_VERSION_MAJOR 0
-#define GVZ_VERSION_MINOR 5
+#define GVZ_VERSION_MINOR 6
 #define GVZ_VERSION_PATCH 0
 #define GVZ_VERSION "0.6.0"
 
