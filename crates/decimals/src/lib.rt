@@ -7,6 +7,12 @@ ghost use lib.Seq.{sets};
 ghost use Rattle.decimals.specs.Decimal.{leading, decimal};
 ghost use Rattle.decimals.specs.Put.{Put};
 
+// What a text begins with: a number, and how many digits it has; or no number.
+pub enum Found {
+    Number(u64, usize),
+    Nothing,
+}
+
 // How many decimal digits n has.
 fn digit_count(n: u64) -> usize
     ensures { λ r. ⌜ r ≡ length (decimal n) ⌝ }
