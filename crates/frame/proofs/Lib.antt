@@ -7,6 +7,7 @@ pub mod Origins
 pub mod Frames
 pub mod Areas
 pub mod Readings
+pub mod Verdicts
 pub mod Promises
 pub mod Marks
 pub mod Editions

@@ -1,2 +1,4 @@
 pub mod Possible
 pub mod Verdicts
+pub mod Lists
+pub mod Counted
