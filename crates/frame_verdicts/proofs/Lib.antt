@@ -1,0 +1,4 @@
+mod Tables
+mod Refused
+mod Accepted
+pub mod Promises
