@@ -2,3 +2,6 @@ pub mod Possible
 pub mod Verdicts
 pub mod Lists
 pub mod Counted
+pub mod Rows
+pub mod Given
+pub mod Promises

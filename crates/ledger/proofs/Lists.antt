@@ -51,7 +51,7 @@ one-number n h =
 -- ---- one more at the place of a number
 
 -- k numbers from a on
-upFrom : (a k : ℕ) → List ℕ
+unfoldable pub upFrom : (a k : ℕ) → List ℕ
 upFrom a zero = []
 upFrom a (suc k) = a ∷ upFrom (suc a) k
 
@@ -173,19 +173,19 @@ module _ (fs : List Frame) (f : Frame) where
           let accepted : framesWith 0 (fs ++ f ∷ []) ≡ framesWith 0 fs + 1 = next-with 0 ∙ ap (λ (t : Bool). framesWith 0 fs + digit t) e in
           sym (with-accepted (ledgerOf fs) v (placesCounted v) refl z)
           ∙ (λ i.
-            record {
-              seen = sym next-seen i;
-              refused = sym kept i;
-              accepted = sym accepted i;
-              repaired = sym next-places i;
-            })
+          record {
+            seen = sym next-seen i;
+            refused = sym kept i;
+            accepted = sym accepted i;
+            repaired = sym next-places i;
+          })
       go false e =
           let z = eqb-false (v .number) 0 e in
           sym (with-refused (ledgerOf fs) v (placesCounted v) refl z)
           ∙ (λ i.
-            record {
-              seen = sym next-seen i;
-              refused = (one-more (v .number) (λ n. framesWith n fs) (omega arith) (number-most f) ∙ sym (map-same _ _ (λ n. next-with n) refusals)) i;
-              accepted = sym (next-with 0 ∙ not-more (framesWith 0 fs) (eqb (v .number) 0) e) i;
-              repaired = sym next-places i;
-            })
+          record {
+            seen = sym next-seen i;
+            refused = (one-more (v .number) (λ n. framesWith n fs) (omega arith) (number-most f) ∙ sym (map-same _ _ (λ n. next-with n) refusals)) i;
+            accepted = sym (next-with 0 ∙ not-more (framesWith 0 fs) (eqb (v .number) 0) e) i;
+            repaired = sym next-places i;
+          })

@@ -56,15 +56,15 @@ mostFrames = 4000000
 
 -- ---- which ledgers there are
 
--- frames are bytes
-abbrev pub AllBytes : List Frame → Type 0
-AllBytes [] = Unit {0}
-AllBytes ((ed, f) ∷ fs) = Bytes f × AllBytes fs
+-- something holds of each frame of a list
+abbrev pub Each : (Frame → Type 0) → List Frame → Type 0
+Each P [] = Unit {0}
+Each P (f ∷ fs) = P f × Each P fs
 
--- a list of at most 4,000,000 frames that gives the ledger
+-- a list of at most 4,000,000 frames, which are bytes, that gives the ledger
 pub record ListOf (l : Ledger) : Type 0 where
   pub frames : List Frame
-  pub all-bytes : AllBytes frames
+  pub all-bytes : Each (λ f. Bytes (f .1)) frames
   pub few : length frames ≤ mostFrames
   pub gives : ledgerOf frames ≡ l
 
