@@ -1,6 +1,7 @@
 // The listing: a line of text for each piece of the input, and a last line with the count. The rules are in specs/; `listing_lines` and
 // `listing_writer` write it.
 ghost use mathlib.Core.Path.{_≡_};
+ghost use Prim.Native.Nat.{_+_, _≤_, min};
 ghost use Rattle.listing.specs.Lines.{pieceSize, pieceCount};
 
 // What an input is made of.
@@ -30,4 +31,16 @@ pub fn piece_count(pieces: Pieces, n: usize) -> usize
         return n / size;
     }
     n / size + 1
+}
+
+// Where the piece that starts at a place of an input of len bytes ends. It requires that the place is one of the input: the callers go through it from its start on.
+pub fn piece_end(pieces: Pieces, start: usize, len: usize) -> usize
+    requires { ⌜ start ≤ len ⌝ }
+    ensures { λ r. ⌜ r ≡ min (start + pieceSize pieces) len ⌝ }
+{
+    let size = piece_size(pieces);
+    if len - start < size {
+        return len;
+    }
+    start + size
 }

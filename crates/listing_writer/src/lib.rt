@@ -1,22 +1,9 @@
 // The listing of an input, by the edition named and by what the input is made of: a line of text for each piece.
 ghost use mathlib.Core.Path.{_≡_};
-ghost use Prim.Native.Nat.{_+_, _≤_, min};
 ghost use lib.ListN.{length};
-ghost use Rattle.listing.specs.Lines.{pieceSize, listCount, listOf};
+ghost use Rattle.listing.specs.Lines.{listCount, listOf};
 use frame::Edition;
 use listing::Pieces;
-
-// Where the piece that starts at a place ends.
-fn piece_end(pieces: Pieces, start: usize, len: usize) -> usize
-    requires { ⌜ start ≤ len ⌝ }
-    ensures { λ r. ⌜ r ≡ min (start + pieceSize pieces) len ⌝ }
-{
-    let size = listing::piece_size(pieces);
-    if len - start < size {
-        return len;
-    }
-    start + size
-}
 
 // The lines of all pieces of the input, numbered from the first on, at the start of the buffer; how many bytes they are. A buffer that has not 32 bytes for
 // each piece is left as it is, and the answer is 0.
@@ -31,7 +18,7 @@ pub fn list(edition: Edition, pieces: Pieces, input: &[u8], first: u32, out: &mu
     let mut start = 0;
     let mut at = 0;
     while start < input.len() {
-        let end = piece_end(pieces, start, input.len());
+        let end = listing::piece_end(pieces, start, input.len());
         at = listing_lines::put_line(
             out,
             at,

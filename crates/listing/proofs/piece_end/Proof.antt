@@ -1,10 +1,10 @@
--- `listing_writer::piece_end` meets its contract. `search` finds this too; the file is here so that another end is refused by the numbers at which it
+-- `listing::piece_end` meets its contract. `search` finds this too; the file is here so that another end is refused by the numbers at which it
 -- differs. Assumes nothing.
 use native.Mathlib.Omega.{arith}
 use borrow.Author.Needs.{needs}
 use Rattle.listing.proofs.Counts.{size-least}
-use Rattle.listing_writer.proofs.piece_end.Statement.{statement}
-use Rattle.listing_writer.proofs.piece_end.Tie as tie
+use Rattle.listing.proofs.piece_end.Statement.{statement}
+use Rattle.listing.proofs.piece_end.Tie as tie
 
 piece-size-requires : tie.Need-piece-size-requires
 piece-size-requires c κs = search needs
