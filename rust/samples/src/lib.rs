@@ -1,10 +1,11 @@
-//! Frames, frames with marks, captures, records, headers, doubles and what a desk gives, to try the two versions on, each made from a seed: the same
-//! seed gives the same sample.
+//! Frames, frames with marks, captures, records, headers, ledgers and their reports, doubles and what a desk gives, to try the two versions on, each
+//! made from a seed: the same seed gives the same sample.
 pub mod captures;
 pub mod desks;
 pub mod doubles;
 pub mod frames;
 pub mod headers;
+pub mod ledgers;
 pub mod marked;
 pub mod records;
 
