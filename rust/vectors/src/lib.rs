@@ -4,6 +4,7 @@ mod codes;
 mod frames;
 mod headers;
 mod laying;
+mod ledgers;
 mod marked;
 mod places;
 mod reading;
@@ -22,7 +23,7 @@ pub struct Program {
     cases: fn() -> Vec<Case>,
 }
 
-pub const PROGRAMS: [Program; 8] = [
+pub const PROGRAMS: [Program; 9] = [
     Program {
         name: "test_codes",
         operations: &codes::OPERATIONS,
@@ -62,6 +63,11 @@ pub const PROGRAMS: [Program; 8] = [
         name: "test_marked",
         operations: &marked::OPERATIONS,
         cases: marked::cases,
+    },
+    Program {
+        name: "test_ledgers",
+        operations: &ledgers::OPERATIONS,
+        cases: ledgers::cases,
     },
 ];
 
