@@ -1,1 +1,160 @@
+-- The turns of the program. Assumes nothing.
+use mathlib.Core.Path.{_≡_, refl, sym, ap, ap₂, _∙_}
+use mathlib.Core.Bool.{Bool, true, false, cond}
+use mathlib.Core.List.{List, [], _∷_, _++_, append-assoc, append-nil}
+use Prim.Native.Nat.{ℕ, zero, suc, _+_, _-_, _*_, _≤_, _<_, min}
+use native.Mathlib.Omega.{arith}
+use lib.Dec.{eqb, ltb}
+use lib.ListN.{length, take, drop, length-append, length-take, length-drop, take-append-drop}
+use lib.Seq.{take-all}
+use borrow.Author.Tests.{eq-eqb, ne-eqb, eqb-true, eqb-false, lt-ltb, le-ltb, ltb-true, ltb-false}
+use Rattle.frame.specs.declared.Edition.{Edition}
+use Rattle.listing.specs.Lines.{pieceCount}
+use Rattle.listing.specs.declared.Pieces.the-variants.{Frames}
+use Rattle.listing.proofs.Counts.{count-whole, count-within, count-after}
+use Rattle.ledger.specs.Counting.{Frame, ledgerOf, mostFrames, fresh, countedIn}
+use Rattle.ledger.specs.declared.Ledger.{Ledger}
+use Rattle.ledger.proofs.Lists.{list-seen, list-none}
+use Rattle.ledger.proofs.Counted.{list-more}
+use Rattle.ledger_input.specs.Input.{framesIn, allFrames, inputLedger, wantedAt, turnsAtMost, ledgerAfter, turnAfter, start, programLedger}
+use Rattle.ledger_input.specs.declared.LedgerTurn.{LedgerTurn}
+use Rattle.ledger_input.proofs.Frames.{frames-none, frames-length, frames-append}
 
+module _ (ed : Edition) where
+  -- ---- one turn
+
+  pub program-over : (k : ℕ) (t : LedgerTurn) (s : List ℕ) → t .wanted ≡ 0 → programLedger ed k t s ≡ t .ledger
+  unfolding programLedger
+  program-over zero t s e = refl
+  program-over (suc k) t s e = rw (eq-eqb (t .wanted) 0 e)
+
+  program-turn : (k : ℕ) (t : LedgerTurn) (s : List ℕ) → (t .wanted ≡ 0 → ⊥)
+      → programLedger ed (suc k) t s ≡ programLedger ed k (turnAfter ed t (take (t .wanted) s)) (drop (t .wanted) s)
+  unfolding programLedger
+  program-turn k t s n = rw (ne-eqb (t .wanted) 0 n)
+
+  -- after the frames ds, something is read, which is s
+  module _ (ds : List Frame) (w : ℕ) (s : List ℕ) (room : length ds + pieceCount Frames (length s) ≤ mostFrames) where
+    turn-ledger : countedIn (ledgerOf ds) (allFrames ed s) ≡ ledgerOf (ds ++ allFrames ed s)
+    turn-ledger = list-more ds (allFrames ed s) (omega (arith, frames-length ed (pieceCount Frames (length s)) s))
+
+    turn-seen : countedIn (ledgerOf ds) (allFrames ed s) .seen ≡ length ds + pieceCount Frames (length s)
+    turn-seen =
+        ap (λ (l : Ledger). l .seen) turn-ledger ∙ list-seen (ds ++ allFrames ed s) ∙ length-append ds (allFrames ed s)
+        ∙ ap (length ds +_) (frames-length ed (pieceCount Frames (length s)) s)
+
+    -- fewer bytes than were asked for
+    turn-last : length s < w → turnAfter ed (record { ledger = ledgerOf ds; wanted = w }) s ≡ record { ledger = ledgerOf (ds ++ allFrames ed s); wanted = 0 }
+    unfolding turnAfter
+    turn-last h = rw (lt-ltb (length s) w h, turn-ledger)
+
+    turn-more : w ≤ length s
+        → turnAfter ed (record { ledger = ledgerOf ds; wanted = w }) s
+        ≡ record { ledger = ledgerOf (ds ++ allFrames ed s); wanted = wantedAt (length ds + pieceCount Frames (length s)) }
+    unfolding turnAfter
+    turn-more h =
+        rw (le-ltb (length s) w h)
+        (λ i. record { ledger = turn-ledger i; wanted = wantedAt (turn-seen i) })
+
+  -- ---- all of them
+
+  -- the frames that are left of s, after n
+  left : ℕ → List ℕ → List Frame
+  left n s = framesIn ed (min (pieceCount Frames (length s)) (mostFrames - n)) s
+
+  left-none : (n : ℕ) (s : List ℕ) → mostFrames ≤ n → left n s ≡ []
+  unfolding left
+  left-none n s h =
+      let z : min (pieceCount Frames (length s)) (mostFrames - n) ≡ 0 = omega arith in
+      ap (λ (k : ℕ). framesIn ed k s) z ∙ frames-none ed s
+
+  left-all : (n : ℕ) (s : List ℕ) → n + pieceCount Frames (length s) ≤ mostFrames → left n s ≡ allFrames ed s
+  unfolding left
+  left-all n s h =
+      let z : min (pieceCount Frames (length s)) (mostFrames - n) ≡ pieceCount Frames (length s) = omega arith in
+      ap (λ (k : ℕ). framesIn ed k s) z
+
+  -- m whole frames of them, and the others
+  left-more : (n m : ℕ) (s : List ℕ) → 26 * m ≤ length s → n + m ≤ mostFrames
+      → left n s ≡ allFrames ed (take (26 * m) s) ++ left (n + m) (drop (26 * m) s)
+  unfolding left
+  left-more n m s h l =
+      let f = take (26 * m) s in
+      let r = drop (26 * m) s in
+      let lf : length f ≡ 26 * m = length-take (26 * m) s ∙ omega arith in
+      let lr : length r ≡ length s - 26 * m = length-drop (26 * m) s in
+      let whole : pieceCount Frames (length f) ≡ m = count-whole Frames (length f) m lf in
+      let after : m + pieceCount Frames (length r) ≡ pieceCount Frames (length s) = rw lr (count-after Frames m (length s) h) in
+      let both : min (pieceCount Frames (length s)) (mostFrames - n) ≡ m + min (pieceCount Frames (length r)) (mostFrames - (n + m)) = omega arith in
+      ap₂ (framesIn ed) both (sym (take-append-drop (26 * m) s))
+      ∙ frames-append ed m (min (pieceCount Frames (length r)) (mostFrames - (n + m))) f r lf
+      ∙ ap (λ (k : ℕ). framesIn ed k f ++ framesIn ed (min (pieceCount Frames (length r)) (mostFrames - (n + m))) r) (sym whole)
+
+  -- the program from a list's ledger on
+  FromLedger : ℕ → List Frame → List ℕ → Type 0
+  FromLedger k ds s = programLedger ed k (record { ledger = ledgerOf ds; wanted = wantedAt (length ds) }) s ≡ ledgerOf (ds ++ left (length ds) s)
+
+  from-full : (k : ℕ) (ds : List Frame) (s : List ℕ) → length ds ≡ mostFrames → FromLedger k ds s
+  unfolding FromLedger
+  from-full k ds s full =
+      program-over k (record { ledger = ledgerOf ds; wanted = wantedAt (length ds) }) s (omega arith)
+      ∙ ap ledgerOf (sym (ap (ds ++_) (left-none (length ds) s (omega arith)) ∙ append-nil ds))
+
+  module _ (k : ℕ) (ds : List Frame) (s : List ℕ) (few : length ds < mostFrames) where
+    turn : LedgerTurn
+    turn = record { ledger = ledgerOf ds; wanted = wantedAt (length ds) }
+
+    -- the input ends in this turn
+    from-last : length s < wantedAt (length ds) → FromLedger (suc k) ds s
+    unfolding FromLedger turn
+    from-last h =
+        let w = wantedAt (length ds) in
+        let room = count-within Frames (length s) (min 2520 (mostFrames - length ds)) (omega arith) in
+        program-turn k turn s (λ z. omega arith)
+        ∙ ap (λ (r : List ℕ). programLedger ed k (turnAfter ed turn r) (drop w s)) (take-all w s (omega arith))
+        ∙ ap (λ (t : LedgerTurn). programLedger ed k t (drop w s)) (turn-last ds w s (omega arith) h)
+        ∙ program-over k (record { ledger = ledgerOf (ds ++ allFrames ed s); wanted = 0 }) (drop w s) refl
+        ∙ ap (λ (fs : List Frame). ledgerOf (ds ++ fs)) (sym (left-all (length ds) s (omega arith)))
+
+    -- it goes on
+    from-more : wantedAt (length ds) ≤ length s
+        → ((es : List Frame) (r : List ℕ) → length es ≡ length ds + min 2520 (mostFrames - length ds) → FromLedger k es r) → FromLedger (suc k) ds s
+    unfolding FromLedger turn
+    from-more h others =
+        let m = min 2520 (mostFrames - length ds) in
+        let w = wantedAt (length ds) in
+        let f = take w s in
+        let r = drop w s in
+        let es = ds ++ allFrames ed f in
+        let lf : length f ≡ 26 * m = length-take w s ∙ omega arith in
+        let whole : pieceCount Frames (length f) ≡ m = count-whole Frames (length f) m lf in
+        let le : length es ≡ length ds + m = length-append ds (allFrames ed f) ∙ ap (length ds +_) (frames-length ed (pieceCount Frames (length f)) f ∙ whole) in
+        program-turn k turn s (λ z. omega arith)
+        ∙ ap (λ (t : LedgerTurn). programLedger ed k t r) (turn-more ds w f (omega arith) (omega arith))
+        ∙ ap (λ (n : ℕ). programLedger ed k (record { ledger = ledgerOf es; wanted = wantedAt n }) r) (ap (length ds +_) whole ∙ sym le)
+        ∙ others es r le
+        ∙ ap ledgerOf
+        (ap (λ (n : ℕ). es ++ left n r) le ∙ append-assoc ds (allFrames ed f) (left (length ds + m) r)
+        ∙ ap (ds ++_) (sym (left-more (length ds) m s h (omega arith))))
+
+  program-from : (k : ℕ) (ds : List Frame) (s : List ℕ) → length ds ≤ mostFrames → mostFrames ≤ length ds + 2520 * k → FromLedger k ds s
+  program-from zero ds s few enough = from-full 0 ds s (omega arith)
+  program-from (suc k) ds s few enough =
+      go (eqb (length ds) mostFrames) refl (ltb (length s) (wantedAt (length ds))) refl (λ es r e. program-from k es r (omega arith))
+    where
+      go : (t : Bool) → eqb (length ds) mostFrames ≡ t → (u : Bool) → ltb (length s) (wantedAt (length ds)) ≡ u
+          → ((es : List Frame) (r : List ℕ) → length es ≡ length ds + min 2520 (mostFrames - length ds) → mostFrames ≤ length es + 2520 * k → FromLedger k es r)
+          → FromLedger (suc k) ds s
+      go true e u d others = from-full (suc k) ds s (eqb-true (length ds) mostFrames e)
+      go false e true d others =
+          let apart = eqb-false (length ds) mostFrames e in
+          from-last k ds s (omega arith) (ltb-true (length s) (wantedAt (length ds)) d)
+      go false e false d others =
+          let apart = eqb-false (length ds) mostFrames e in
+          from-more k ds s (omega arith) (ltb-false (length s) (wantedAt (length ds)) d) (λ es r l. others es r l (omega arith))
+
+  pub whole : (k : ℕ) (s : List ℕ) → turnsAtMost ≤ k → programLedger ed k start s ≡ inputLedger ed s
+  unfolding FromLedger left inputLedger
+  whole k s h =
+      ap (λ (l : Ledger). programLedger ed k (record { ledger = l; wanted = 65520 }) s) (sym list-none)
+      ∙ program-from k [] s (omega arith) (omega arith)

@@ -1,17 +1,16 @@
+-- `ledger_input::start` meets its contract. Assumes nothing.
+use mathlib.Core.Path.{ap}
 use borrow.Author.Needs.{needs}
+use Rattle.ledger.specs.declared.Ledger.{Ledger}
+use Rattle.ledger_input.specs.declared.LedgerTurn.{LedgerTurn}
 use Rattle.ledger_input.proofs.start.Statement.{statement}
 use Rattle.ledger_input.proofs.start.Tie as tie
-use Rattle.ledger_input.proofs.start.Reads as reads
-use Rattle.ledger_input.proofs.start.Lts as lts
-use Rattle.ledger.proofs.Ledger.new.Reads as new-reads
 
--- src/lib.rt:32:17
 new-requires : tie.Need-new-requires
 new-requires c κs = search needs
 
--- src/lib.rt:28:1
 returns : tie.Need-returns
-returns c = ?
+returns c = ap (λ (l : Ledger). record { ledger = l; wanted = 65520 }) (c .new .ensures)
 
 pub start-spec : {M : Type 1} → statement M
 start-spec = tie.close (tie.spec new-requires returns)
