@@ -20,6 +20,21 @@ use Rattle.ledger_input.specs.Input.{framesIn, allFrames, inputLedger, w
 use Rattle.ledger_input.specs.declared.LedgerTurn.{LedgerTurn}
 use Rattle.ledger_input.proofs.Frames.{frames-none, frames-length, frames-append}
 
+-- ---- the ways out of a turn
+
+module _ (ed : Edition) (t : LedgerTurn) (s : List ℕ) (l : Ledger) (counted : l ≡ ledgerAfter ed t s) where
+  -- the input has ended
+  pub turn-ended : length s < t .wanted → _≡_ {A = LedgerTurn} (record { ledger = l; wanted = 0 }) (turnAfter ed t s)
+  unfolding turnAfter
+  turn-ended h = rw (lt-ltb (length s) (t .wanted) h) (ap (λ (k : Ledger). record { ledger = k; wanted = 0 }) counted)
+
+  -- it goes on, or 4,000,000 frames are counted
+  pub turn-full : (w : ℕ) → t .wanted ≤ length s → w ≡ wantedAt (l .seen) → _≡_ {A = LedgerTurn} (record { ledger = l; wanted = w }) (turnAfter ed t s)
+  unfolding turnAfter
+  turn-full w h e =
+      rw (le-ltb (length s) (t .wanted) h)
+      (ap (λ (n : ℕ). record { ledger = l; wanted = n }) e ∙ ap (λ (k : Ledger). record { ledger = k; wanted = wantedAt (k .seen) }) counted)
+
 module _ (ed : Edition) where
   -- ---- one turn
 
