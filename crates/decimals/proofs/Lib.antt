@@ -1,3 +1,4 @@
 pub mod Stores
 pub mod Decimals
 pub mod Written
+pub mod Readings
