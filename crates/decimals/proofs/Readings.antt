@@ -1,18 +1,53 @@
 -- Laws of reading text: what stands behind a label, and the number that digits say. Assumes nothing.
 use mathlib.Core.Path.{_≡_, refl, sym, ap, ap₂, subst, _∙_}
-use mathlib.Core.Bool.{Bool, true, false, and-eq-true-iff}
+use mathlib.Core.Bool.{Bool, true, false, _&&_, and-eq-true-iff}
 use mathlib.Core.List.{List, [], _∷_, _++_, append-assoc}
 use Prim.Native.Nat.{ℕ, zero, suc, _+_, _-_, _*_, _/_, _%_, _<_, _≤_}
+use native.Mathlib.Numerals.{add-one}
 use native.Mathlib.Omega.{arith}
 use lib.Dec.{eqb, leb, ltb}
-use lib.ListN.{length, getD, drop, length-append}
-use lib.Seq.{drop-at, append-snoc}
+use lib.ListN.{length, getD, drop, length-append, drop-of-length-le}
+use lib.Seq.{drop-at, drop-cons, append-snoc}
 use borrow.Author.Tests.{lt-ltb, le-ltb, le-leb, eq-eqb, ne-eqb, ltb-true, ltb-false, leb-true, eqb-true, eqb-false}
 use Rattle.decimals.specs.Decimal.{digits, decimal}
 use Rattle.decimals.specs.Reading.{startsWith, isDigit, digitsFrom, decimalAt}
 use Rattle.decimals.specs.declared.Found.{Found}
 use Rattle.decimals.specs.declared.Found.the-variants.{Number, Nothing}
 use Rattle.decimals.proofs.Decimals.{leading-some, digits-one, decimal-last}
+
+-- ---- at the edges of the rules
+
+-- of `07` only the 0 is a number
+zero-in-front : decimalAt (48 ∷ 55 ∷ []) ≡ Number 0 1
+unfolding decimalAt digitsFrom
+zero-in-front = refl
+
+-- the bytes before `0` and behind `9` end a number
+ended : decimalAt (57 ∷ 47 ∷ []) ≡ Number 9 1
+unfolding decimalAt digitsFrom
+ended = refl
+
+ended-above : decimalAt (57 ∷ 58 ∷ []) ≡ Number 9 1
+unfolding decimalAt digitsFrom
+ended-above = refl
+
+-- the largest number of 64 bits, and the one behind it
+largest : decimalAt (decimal 18446744073709551615) ≡ Number 18446744073709551615 20
+unfolding decimalAt digitsFrom digits
+largest = refl
+
+too-large : decimalAt (decimal 18446744073709551616) ≡ Nothing
+unfolding decimalAt digitsFrom digits
+too-large = refl
+
+-- a text that ends in its label, and one that differs in the last byte
+cut-short : startsWith (97 ∷ 98 ∷ []) (97 ∷ []) ≡ false
+unfolding startsWith
+cut-short = refl
+
+last-differs : startsWith (97 ∷ 98 ∷ []) (97 ∷ 99 ∷ []) ≡ false
+unfolding startsWith
+last-differs = refl
 
 -- ---- labels
 
@@ -28,6 +63,39 @@ starts-split (a ∷ t) [] e = let z : _≡_ {A = ℕ} 0 1 = cc in absurd (omega 
 starts-split (a ∷ t) (b ∷ s) e =
     let r = and-eq-true-iff (eqb a b) (startsWith t s) .0 e in
     ap₂ _∷_ (sym (eqb-true a b (r .0))) (starts-split t s (r .1))
+
+-- the label is met at the places before i
+pub record Met (t s : List ℕ) (i : ℕ) : Type 0 where
+  pub inside : i ≤ length t
+  pub rest : startsWith t s ≡ startsWith (drop i t) (drop i s)
+
+pub met-none : (t s : List ℕ) → Met t s 0
+met-none t s = record { inside = omega arith; rest = refl }
+
+module _ {t s : List ℕ} {i : ℕ} (w : Met t s i) where
+  met-here : i < length t → i < length s → startsWith t s ≡ (eqb (getD t i 0) (getD s i 0) && startsWith (drop (i + 1) t) (drop (i + 1) s))
+  unfolding startsWith
+  met-here h l = w .rest ∙ rw (add-one, drop-cons t i 0 h, drop-cons s i 0 l)
+
+  pub met-next : i < length t → i < length s → getD t i 0 ≡ getD s i 0 → Met t s (i + 1)
+  met-next h l e = record { inside = omega arith; rest = met-here h l ∙ rw (eq-eqb (getD t i 0) (getD s i 0) e) }
+
+  pub met-other : i < length t → i < length s → (getD t i 0 ≡ getD s i 0 → ⊥) → false ≡ startsWith t s
+  met-other h l e = sym (met-here h l ∙ rw (ne-eqb (getD t i 0) (getD s i 0) e))
+
+  pub met-all : length t ≤ i → true ≡ startsWith t s
+  unfolding startsWith
+  met-all h = sym (w .rest ∙ rw (drop-of-length-le t {i = i} h))
+
+pub starts-short : (t s : List ℕ) → length s < length t → false ≡ startsWith t s
+unfolding startsWith
+starts-short [] s h = absurd (omega arith)
+starts-short (a ∷ t) [] h = refl
+starts-short (a ∷ t) (b ∷ s) h = go (eqb a b) (starts-short t s (omega arith))
+  where
+    go : (x : Bool) → false ≡ startsWith t s → false ≡ (x && startsWith t s)
+    go true e = e
+    go false e = refl
 
 -- ---- a digit
 
@@ -60,6 +128,56 @@ digits-next v k b s e h = rw (e, lt-ltb (10 * v + (b - 48)) 18446744073709551616
 pub digits-over : (v k b : ℕ) (s : List ℕ) → isDigit b ≡ true → 18446744073709551616 ≤ 10 * v + (b - 48) → digitsFrom v k (b ∷ s) ≡ Nothing
 unfolding digitsFrom
 digits-over v k b s e h = rw (e, le-ltb (10 * v + (b - 48)) 18446744073709551616 h)
+
+-- the digits before a place are read
+pub record DigitsRead (s : List ℕ) (first value i : ℕ) : Type 0 where
+  pub inside : i ≤ length s
+  pub rest : digitsFrom first 1 (drop 1 s) ≡ digitsFrom value i (drop i s)
+
+pub digits-first : (s : List ℕ) (first : ℕ) → 0 < length s → DigitsRead s first first 1
+digits-first s first h = record { inside = omega arith; rest = refl }
+
+module _ {s : List ℕ} {first value i : ℕ} (w : DigitsRead s first value i) where
+  digits-here : i < length s → digitsFrom first 1 (drop 1 s) ≡ digitsFrom value i (getD s i 0 ∷ drop (i + 1) s)
+  digits-here h = w .rest ∙ rw (add-one, drop-cons s i 0 h)
+
+  pub digits-one-more : (d : ℕ) → i < length s → isDigit (getD s i 0) ≡ true → d ≡ getD s i 0 - 48 → 10 * value + d < 18446744073709551616
+      → DigitsRead s first (10 * value + d) (i + 1)
+  digits-one-more d h e q l =
+      rw q (record { inside = omega arith; rest = digits-here h ∙ digits-next value i (getD s i 0) (drop (i + 1) s) e (omega arith) })
+
+  pub digits-no-room : (d : ℕ) → i < length s → isDigit (getD s i 0) ≡ true → d ≡ getD s i 0 - 48 → 18446744073709551616 ≤ 10 * value + d
+      → Nothing ≡ digitsFrom first 1 (drop 1 s)
+  digits-no-room d h e q l = sym (digits-here h ∙ digits-over value i (getD s i 0) (drop (i + 1) s) e (omega arith))
+
+  pub digits-before : i < length s → isDigit (getD s i 0) ≡ false → Number value i ≡ digitsFrom first 1 (drop 1 s)
+  digits-before h e = sym (digits-here h ∙ digits-end value i (getD s i 0 ∷ drop (i + 1) s) e)
+
+  pub digits-all : length s ≤ i → Number value i ≡ digitsFrom first 1 (drop 1 s)
+  digits-all h = sym (w .rest ∙ rw (drop-of-length-le s {i = i} h) (digits-end value i [] refl))
+
+-- ---- the first byte
+
+pub decimal-none : (s : List ℕ) → length s ≡ 0 → Nothing ≡ decimalAt s
+unfolding decimalAt
+decimal-none [] e = refl
+decimal-none (b ∷ s) e = absurd (omega arith)
+
+pub decimal-zero : (s : List ℕ) → 0 < length s → getD s 0 0 ≡ 48 → Number 0 1 ≡ decimalAt s
+unfolding decimalAt
+decimal-zero [] h e = absurd (omega arith)
+decimal-zero (b ∷ s) h e = rw e
+
+pub decimal-other : (s : List ℕ) → 0 < length s → (getD s 0 0 ≡ 48 → ⊥) → isDigit (getD s 0 0) ≡ false → Nothing ≡ decimalAt s
+unfolding decimalAt
+decimal-other [] h z e = absurd (omega arith)
+decimal-other (b ∷ s) h z e = rw (ne-eqb b 48 z, e)
+
+pub decimal-first : (s : List ℕ) (d : ℕ) → 0 < length s → (getD s 0 0 ≡ 48 → ⊥) → isDigit (getD s 0 0) ≡ true → d ≡ getD s 0 0 - 48
+    → digitsFrom d 1 (drop 1 s) ≡ decimalAt s
+unfolding decimalAt
+decimal-first [] d h z e q = absurd (omega arith)
+decimal-first (b ∷ s) d h z e q = rw (q, ne-eqb b 48 z, e)
 
 -- ---- what was written is read
 

@@ -1,11 +1,13 @@
-// Numbers as text: decimal digits, and single bytes, stored in a buffer. Sizes are required; the callers have room for what they store.
+// Numbers as text: decimal digits, and single bytes, stored in a buffer, and read. Where text is stored, sizes are required: the callers have room for it.
 ghost use mathlib.Core.Path.{_≡_};
 ghost use mathlib.Core.List.{[], _∷_};
-ghost use Prim.Native.Nat.{_+_, _-_, _≤_, _<_};
-ghost use lib.ListN.{length};
+ghost use Prim.Native.Nat.{_+_, _-_, _*_, _≤_, _<_};
+ghost use lib.Dec.{ltb};
+ghost use lib.ListN.{length, drop};
 ghost use lib.Seq.{sets};
 ghost use Rattle.decimals.specs.Decimal.{leading, decimal};
 ghost use Rattle.decimals.specs.Put.{Put};
+ghost use Rattle.decimals.specs.Reading.{startsWith, isDigit, digitsFrom, decimalAt};
 
 // What a text begins with: a number, and how many digits it has; or no number.
 pub enum Found {
@@ -14,7 +16,7 @@ pub enum Found {
 }
 
 // How many decimal digits n has.
-fn digit_count(n: u64) -> usize
+pub fn digit_count(n: u64) -> usize
     ensures { λ r. ⌜ r ≡ length (decimal n) ⌝ }
 {
     let mut k = 1;
@@ -58,4 +60,79 @@ pub fn put_decimal(out: &mut [u8], at: usize, n: u64) -> usize
     let last = at + digit_count(n) - 1;
     put_leading(out, last, n / 10);
     put_byte(out, last, 48 + (n % 10) as u8)
+}
+
+// Whether the text begins with the label.
+pub fn starts_with(label: &[u8], text: &[u8]) -> bool
+    ensures { λ r. ⌜ r ≡ startsWith (now (label .entry)) (now (text .entry)) ⌝ }
+{
+    if text.len() < label.len() {
+        return false;
+    }
+    let mut i = 0;
+    while i < label.len() {
+        if label[i] != text[i] {
+            return false;
+        }
+        i += 1;
+    }
+    true
+}
+
+// Whether a byte is a decimal digit.
+fn is_digit(byte: u8) -> bool
+    ensures { λ r. ⌜ r ≡ isDigit byte ⌝ }
+{
+    48 <= byte && byte <= 57
+}
+
+// Whether a number with one more digit behind it has at most 64 bits.
+fn fits(value: u64, digit: u64) -> bool
+    requires { ⌜ digit < 10 ⌝ }
+    ensures { λ r. ⌜ r ≡ ltb (10 * value + digit) 18446744073709551616 ⌝ }
+{
+    value <= (18446744073709551615 - digit) / 10
+}
+
+// What a digit says.
+fn digit_value(byte: u8) -> u64
+    requires { ⌜ 48 ≤ byte ⌝ }
+    ensures { λ r. ⌜ r ≡ byte - 48 ⌝ }
+{
+    (byte - 48) as u64
+}
+
+// The number that the text's first digit, of this value, and those behind it make up.
+fn read_digits(text: &[u8], first: u64) -> Found
+    requires { ⌜ 0 < length (now text) ⌝ }
+    ensures { λ r. ⌜ r ≡ digitsFrom first 1 (drop 1 (now (text .entry))) ⌝ }
+{
+    let mut value = first;
+    let mut i = 1;
+    while i < text.len() && is_digit(text[i]) {
+        let digit = digit_value(text[i]);
+        if !fits(value, digit) {
+            return Found::Nothing;
+        }
+        value = 10 * value + digit;
+        i += 1;
+    }
+    Found::Number(value, i)
+}
+
+// The plain decimal number that the text begins with, and how many digits it has.
+pub fn read_decimal(text: &[u8]) -> Found
+    ensures { λ r. ⌜ r ≡ decimalAt (now (text .entry)) ⌝ }
+{
+    if text.len() == 0 {
+        return Found::Nothing;
+    }
+    let first = text[0];
+    if first == 48 {
+        return Found::Number(0, 1);
+    }
+    if !is_digit(first) {
+        return Found::Nothing;
+    }
+    read_digits(text, digit_value(first))
 }
