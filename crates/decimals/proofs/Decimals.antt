@@ -20,7 +20,7 @@ unfolding digits
 digits-more k n h = rw (le-ltb n 10 h)
 
 -- the largest number that k + 1 digits hold is 10 times that of k, and 9
-limit : ℕ → ℕ
+unfoldable pub limit : ℕ → ℕ
 limit zero = 9
 limit (suc k) = 10 * limit k + 9
 
@@ -74,13 +74,17 @@ length-limit (suc k) (suc j) n h = go (length-limit k j (n / 10) (omega arith)) 
     go r true e = rw (digits-one j n (ltb-true n 10 e)) (omega arith)
     go r false e = rw (digits-more j n (ltb-false n 10 e), length-append) (omega arith)
 
+-- in k + 1 digits
+pub length-most : (k n : ℕ) → n ≤ limit k → length (decimal n) ≤ suc k
+length-most k n h = length-limit k 20 n h
+
 pub length-word : (n : ℕ) → n < 18446744073709551616 → length (decimal n) ≤ 20
 unfolding limit
-length-word n h = length-limit 19 20 n (omega arith)
+length-word n h = length-most 19 n (omega arith)
 
 pub length-byte : (n : ℕ) → n < 256 → length (decimal n) ≤ 3
 unfolding limit
-length-byte n h = length-limit 2 20 n (omega arith)
+length-byte n h = length-most 2 n (omega arith)
 
 pub length-last : (n : ℕ) → n < 18446744073709551616 → length (decimal n) ≡ length (leading (n / 10)) + 1
 length-last n h = rw (decimal-last n h, length-append)

@@ -4,4 +4,5 @@ pub mod Lists
 pub mod Counted
 pub mod Rows
 pub mod Given
+pub mod Reports
 pub mod Promises
