@@ -1,4 +1,4 @@
 mod Tables
-mod Refused
+pub mod Refused
 mod Accepted
 pub mod Promises

@@ -5,4 +5,5 @@ pub mod Counted
 pub mod Rows
 pub mod Given
 pub mod Reports
+mod Worked
 pub mod Promises

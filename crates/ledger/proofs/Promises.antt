@@ -1,6 +1,7 @@
 -- The promises hold. Assumes nothing.
 use mathlib.Core.Path.{_≡_, refl, sym, ap, subst, _∙_}
 use mathlib.Core.Bool.{Bool, true, false}
+use mathlib.Core.Logic.{_≢_, _⊎_, inl, inr}
 use mathlib.Core.List.{List, [], _∷_, _++_}
 use Prim.Native.Nat.{ℕ, _≤_}
 use native.Mathlib.Omega.{arith}
@@ -9,12 +10,15 @@ use lib.ListN.{length}
 use borrow.Author.Tests.{eqb-true, eqb-false}
 use Rattle.frame.specs.declared.Edition.the-variants.{First}
 use Rattle.ledger.specs.Counting.{Frame, ledgerOf, mostFrames, ListOf, possible, fresh, countOf, countedIn}
-use Rattle.ledger.specs.Promises.{Sized, DayLedger}
+use Rattle.ledger.specs.Report.{reportOf, printNumber, printOf, notReport, parseOf}
+use Rattle.ledger.specs.Promises.{Sized, DayLedger, LedgerReports}
 use Rattle.ledger.specs.declared.Ledger.{Ledger}
 use Rattle.ledger.specs.declared.LedgerAnswer.{LedgerAnswer}
 use Rattle.ledger.proofs.Lists.{list-possible, list-nine, list-none}
 use Rattle.ledger.proofs.Counted.{count-order, answer-impossible, answer-full, answer-counted, list-counted, list-full, list-stays, counted-append, fresh-counted}
 use Rattle.ledger.proofs.Given.{given}
+use Rattle.ledger.proofs.Reports.{print-order, parse-print, print-parse, settled, apart, report-length, print-impossible, print-other-size, print-accepted, printed, unchanged}
+use Rattle.ledger.proofs.Worked.{two-pieces, no-frames}
 
 pub listed-passes : (l : Ledger) → ListOf l → possible l ≡ true
 listed-passes l g = ap possible (sym (g .gives)) ∙ list-possible (g .frames) (g .few)
@@ -59,4 +63,56 @@ day-ledger =
       impossible = impossible;
       impossible-only = impossible-only;
       order = count-order;
+    }
+
+-- ---- the report
+
+listed-sized : (l : Ledger) → ListOf l → Sized l
+listed-sized l g = subst Sized (g .gives) (list-nine (g .frames))
+
+printed-read : (l : Ledger) → ListOf l → parseOf (reportOf l) ≡ record { number = 0; ledger = l }
+printed-read l g = parse-print l (listed-sized l g) (listed-passes l g)
+
+read-printed : (s : List ℕ) → parseOf s .number ≡ 0 → ListOf (parseOf s .ledger) × (reportOf (parseOf s .ledger) ≡ s)
+read-printed s e = let r = print-parse s e in (given First (parseOf s .ledger) (r .1 .0) (r .0) .0, r .1 .1)
+
+refused-if-none : (s : List ℕ) → ((l : Ledger) → ListOf l → reportOf l ≢ s) → parseOf s ≡ notReport
+refused-if-none s n = go (settled s)
+  where
+    go : (parseOf s .number ≡ 0) ⊎ (parseOf s ≡ notReport) → parseOf s ≡ notReport
+    go (inl e) = let r = read-printed s e in absurd (n (parseOf s .ledger) (r .0) (r .1))
+    go (inr e) = e
+
+none-if-refused : (s : List ℕ) → parseOf s .number ≡ 18 → (l : Ledger) → ListOf l → reportOf l ≢ s
+unfolding number-of
+none-if-refused s e l g same = let z = ap number-of (sym (ap parseOf same) ∙ printed-read l g) in omega arith
+
+printed-whole : (l : Ledger) (out : List ℕ) → ListOf l → length out ≡ length (reportOf l) → (printNumber l (length out) ≡ 0) × (printOf l out ≡ reportOf l)
+printed-whole l out g e = let n = print-accepted l (length out) (listed-passes l g) e in (n, printed l out n)
+
+not-printed : (l : Ledger) (n : ℕ) → Sized l → (ListOf l → ⊥) → printNumber l n ≡ 18
+not-printed l n nine none = go (possible l) refl
+  where
+    go : (t : Bool) → possible l ≡ t → printNumber l n ≡ 18
+    go true e = absurd (none (given First l nine e .0))
+    go false e = print-impossible l n e
+
+pub ledger-reports : LedgerReports
+ledger-reports =
+    record {
+      printed-read = printed-read;
+      read-printed = read-printed;
+      refused-if-none = refused-if-none;
+      none-if-refused = none-if-refused;
+      settled = settled;
+      apart = apart;
+      printed = printed-whole;
+      other-size = λ l n g e. print-other-size l n (listed-passes l g) e;
+      impossible = not-printed;
+      order = print-order;
+      unchanged = unchanged;
+      least = λ l g. report-length l (listed-sized l g) (listed-passes l g) .0;
+      most = λ l g. report-length l (listed-sized l g) (listed-passes l g) .1;
+      two-pieces = two-pieces;
+      no-frames = no-frames;
     }

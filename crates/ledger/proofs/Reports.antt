@@ -22,7 +22,7 @@ use Rattle.decimals.specs.declared.Found.the-variants.{Number, Nothing}
 use Rattle.decimals.proofs.Decimals.{limit, length-most, length-last}
 use Rattle.decimals.proofs.Readings.{Reads, starts-same, starts-split, decimal-read, read-decimal}
 use Rattle.ledger.specs.Counting.{possible}
-use Rattle.ledger.specs.Report.{labels, numbersOf, labelledLine, labelledLines, reportOf, lengthNumber, lengthOf, printTests, printNumber, printOf, lineEnded, lineAt, inFront, lineThen, numbersIn, ledgerFrom, notReport, parsedFrom, parseOf}
+use Rattle.ledger.specs.Report.{labels, numbersOf, Words, labelledLine, labelledLines, reportOf, lengthNumber, lengthOf, printTests, printNumber, printOf, lineEnded, lineAt, inFront, lineThen, numbersIn, ledgerFrom, notReport, parsedFrom, parseOf}
 use Rattle.ledger.specs.declared.Ledger.{Ledger}
 use Rattle.ledger.specs.declared.LedgerAnswer.{LedgerAnswer}
 use Rattle.ledger.proofs.Possible.{possible-counts}
@@ -118,10 +118,6 @@ line-is label s n k e = go (startsWith label s) refl (decimalAt (drop (length la
     go true a (Number v m) d = ended v m a (read-decimal (drop (length label) s) v m d) (eqb (getD s (length label + m) 0) 10) refl (rw (a, d) at e)
 
 -- ---- any labels and numbers
-
--- each of them fits 64 bits
-abbrev pub Words : List ℕ → Type 0
-Words ns = (i : ℕ) → getD ns i 0 < 18446744073709551616
 
 pub numbers-in : (ls : List (List ℕ)) (ns : List ℕ) → length ns ≡ length ls → Words ns → numbersIn ls (labelledLines ls ns) ≡ some ns
 unfolding numbersIn labelledLines

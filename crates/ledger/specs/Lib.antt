@@ -1,3 +1,4 @@
 pub mod Counting
 pub mod Report
+pub mod Worked
 pub mod Promises

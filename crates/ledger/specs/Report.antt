@@ -2,7 +2,7 @@
 use mathlib.Core.Bool.{Bool, cond, not}
 use mathlib.Core.List.{List, [], _∷_, _++_, map}
 use mathlib.Core.Option.{Option, none, some}
-use Prim.Native.Nat.{ℕ, _+_}
+use Prim.Native.Nat.{ℕ, _+_, _<_}
 use lib.Dec.{eqb}
 use lib.ListN.{length, take, drop, getD}
 use Rattle.bits.specs.Refusal.{firstRefusal}
@@ -30,6 +30,10 @@ labels =
 -- the numbers, in that order
 unfoldable pub numbersOf : Ledger → List ℕ
 numbersOf l = l .seen ∷ (l .refused ++ l .accepted ∷ l .repaired ∷ [])
+
+-- numbers of 64 bits
+abbrev pub Words : List ℕ → Type 0
+Words ns = (i : ℕ) → getD ns i 0 < 18446744073709551616
 
 -- "a line each with one space and a plain decimal number"
 abbrev pub labelledLine : List ℕ → ℕ → List ℕ
