@@ -10,10 +10,13 @@ use Rattle.bits.specs.Layout.{sum}
 use Rattle.ledger.specs.Counting.{mostFrames, possible}
 use Rattle.ledger.specs.declared.Ledger.{Ledger}
 
--- two ledgers: the sum of nine numbers that are not all 0, and one frame more than there are
-computed : (possible (record { seen = 2; refused = 1 ∷ 0 ∷ []; accepted = 1; repaired = 8 }) ≡ true) × (possible (record { seen = 3; refused = 1 ∷ 0 ∷ []; accepted = 1; repaired = 8 }) ≡ false)
-unfolding possible sum
-computed = (refl, refl)
+-- two frames, one refused and one accepted with eight places; then with nine, with a frame more, and with too many
+small : ℕ → ℕ → Ledger
+small seen repaired = record { seen = seen; refused = 1 ∷ 0 ∷ []; accepted = 1; repaired = repaired }
+
+computed : (possible (small 2 8) ≡ true) × (possible (small 2 9) ≡ false) × (possible (small 3 8) ≡ false) × (possible (record { seen = 4000001; refused = 4000001 ∷ []; accepted = 0; repaired = 0 }) ≡ false)
+unfolding possible sum small
+computed = (refl, refl, refl, refl)
 
 -- the same of the numbers
 pub record Counts (l : Ledger) : Type 0 where

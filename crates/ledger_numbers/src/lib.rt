@@ -88,14 +88,15 @@ pub fn possible(ledger: Ledger) -> bool
     ledger.repaired <= 8 * ledger.accepted
 }
 
-// The repaired places of an accepted frame.
+// The repaired places of an accepted frame, and none of a refused one.
 fn places_counted(verdict: Verdict) -> u8
     ensures { λ r. ⌜ r ≡ placesCounted verdict ⌝ }
 {
-    if verdict.number == 0 {
-        return verdict.repaired;
+    let places = verdict.repaired;
+    if verdict.number != 0 {
+        return 0;
     }
-    0
+    places
 }
 
 // The ledger with a frame more that was judged so. It requires a possible ledger, and the number of a frame's verdict: the callers have tested the one, and
