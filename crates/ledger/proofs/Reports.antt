@@ -62,6 +62,12 @@ print-order l n = refl
 
 -- ---- a line
 
+abbrev pub digitCount : ℕ → ℕ
+digitCount n = length (decimal n)
+
+pub length-line : (label : List ℕ) (n : ℕ) → length (labelledLine label n) ≡ length label + digitCount n + 1
+length-line label n = omega (arith, length-append label (decimal n ++ 10 ∷ []), length-append (decimal n) (10 ∷ []))
+
 -- a label, a number and a line feed
 pub line-at : (label s : List ℕ) (n : ℕ) → n < 18446744073709551616 → lineAt label (labelledLine label n ++ s) ≡ Number n (length (labelledLine label n))
 unfolding lineAt lineEnded
@@ -71,8 +77,7 @@ line-at label s n h =
     append-assoc label (decimal n ++ 10 ∷ []) s ∙ ap (label ++_) (append-snoc (decimal n) 10 s) in
     let feed : getD (label ++ (decimal n ++ 10 ∷ s)) (length label + m) 0 ≡ 10 =
     getD-append-add label (decimal n ++ 10 ∷ s) m 0 ∙ getD-append-seam (decimal n) 10 s 0 in
-    let bytes : length label + m + 1 ≡ length (labelledLine label n) =
-    omega (arith, length-append label (decimal n ++ 10 ∷ []), length-append (decimal n) (10 ∷ [])) in
+    let bytes = sym (length-line label n) in
     rw (text, starts-same label (decimal n ++ 10 ∷ s), drop-append-seam label (decimal n ++ 10 ∷ s), decimal-read n (10 ∷ s) h refl, eq-eqb _ 10 feed, bytes)
 
 -- the text begins with the line of this label and n, in k bytes
@@ -280,18 +285,20 @@ apart l m nine-l nine-m w v e =
 
 -- ---- how long it is
 
-abbrev digitCount : ℕ → ℕ
-digitCount n = length (decimal n)
-
 -- the labels, the numbers and the line feeds
-length-lines : (ls : List (List ℕ)) (ns : List ℕ) → length ns ≡ length ls
+pub length-lines : (ls : List (List ℕ)) (ns : List ℕ) → length ns ≡ length ls
     → length (labelledLines ls ns) ≡ sum (map length ls) + sum (map digitCount ns) + length ls
 unfolding labelledLines sum
 length-lines [] [] e = refl
 length-lines [] (n ∷ ns) e = absurd (omega arith)
 length-lines (l ∷ ls) [] e = absurd (omega arith)
 length-lines (l ∷ ls) (n ∷ ns) e =
-    omega (arith, length-append (labelledLine l n) (labelledLines ls ns), length-append l (decimal n ++ 10 ∷ []), length-append (decimal n) (10 ∷ []), length-lines ls ns (omega arith))
+    omega (arith, length-append (labelledLine l n) (labelledLines ls ns), length-line l n, length-lines ls ns (omega arith))
+
+-- 113 bytes of labels and 12 line feeds
+pub length-twelve : (ns : List ℕ) → length ns ≡ 12 → length (labelledLines labels ns) ≡ 125 + sum (map digitCount ns)
+unfolding labels sum
+length-twelve ns e = omega (arith, length-lines labels ns e)
 
 -- at least a digit each
 digits-least : (ns : List ℕ) → Words ns → length ns ≤ sum (map digitCount ns)
@@ -332,12 +339,12 @@ numbers-most l nine p =
     )
 
 pub report-length : (l : Ledger) → length (l .refused) ≡ 9 → possible l ≡ true → (137 ≤ length (reportOf l)) × (length (reportOf l) ≤ 203)
-unfolding reportOf labels sum
+unfolding reportOf
 report-length l nine p =
     let twelve = twelve-numbers l nine in
     let least = digits-least (numbersOf l) (possible-words l p) in
     let most = numbers-most l nine p in
-    let long = length-lines labels (numbersOf l) twelve in
+    let long = length-twelve (numbersOf l) twelve in
     (omega arith, omega arith)
 
 -- ---- printing

@@ -41,21 +41,26 @@ pub length-text : length labelText ≡ 113
 unfolding labelText labels flatten
 length-text = refl
 
-module _ (i : ℕ) (h : i < 12) where
-  -- the next one begins where label i ends
-  pub label-end : labelStart (i + 1) ≡ labelStart i + length (getD labels i [])
+-- label i stands from s to e
+module _ {i s e : ℕ} (h : i < 12) (from : s ≡ labelStart i) (to : e ≡ labelStart (i + 1)) where
+  label-size : e ≡ s + length (getD labels i [])
   unfolding labelStart
-  label-end = rw add-one (start-next labels i (omega (arith, twelve-labels)))
+  label-size =
+      let next : labelStart (i + 1) ≡ labelStart i + length (getD labels i []) = rw add-one (start-next labels i (omega (arith, twelve-labels))) in
+      omega (arith, from, to)
 
-  pub label-part : take (labelStart (i + 1) - labelStart i) (drop (labelStart i) labelText) ≡ getD labels i []
+  pub label-order : s ≤ e
+  label-order = omega (arith, label-size)
+
+  pub label-inside : e ≤ 113
   unfolding labelStart labelText
-  label-part =
-      let size : labelStart (i + 1) - labelStart i ≡ length (getD labels i []) = omega (arith, label-end) in
-      ap (λ (n : ℕ). take n (drop (labelStart i) labelText)) size ∙ text-at labels i (omega (arith, twelve-labels))
+  label-inside = omega (arith, start-within labels (i + 1), length-text)
 
-pub start-inside : (i : ℕ) → labelStart i ≤ 113
-unfolding labelStart labelText
-start-inside i = omega (arith, start-within labels i, length-text)
+  pub label-part : (text : List ℕ) → text ≡ labelText → take (e - s) (drop s text) ≡ getD labels i []
+  unfolding labelStart labelText
+  label-part text t =
+      let size : e - s ≡ length (getD labels i []) = omega (arith, label-size) in
+      rw (t, size, from) (text-at labels i (omega (arith, twelve-labels)))
 
 -- ---- a row of the places where they begin
 
