@@ -64,6 +64,9 @@ starts-split (a ∷ t) (b ∷ s) e =
     let r = and-eq-true-iff (eqb a b) (startsWith t s) .0 e in
     ap₂ _∷_ (sym (eqb-true a b (r .0))) (starts-split t s (r .1))
 
+pub starts-inside : (t s : List ℕ) → startsWith t s ≡ true → length t ≤ length s
+starts-inside t s e = omega (arith, ap length (starts-split t s e) ∙ length-append t (drop (length t) s))
+
 -- the label is met at the places before i
 pub record Met (t s : List ℕ) (i : ℕ) : Type 0 where
   pub inside : i ≤ length t
@@ -216,6 +219,9 @@ pub record Reads (s : List ℕ) (n k : ℕ) : Type 0 where
   pub small : n < 18446744073709551616
   pub digits : k ≡ length (decimal n)
   pub text : s ≡ decimal n ++ drop k s
+
+pub reads-inside : {s : List ℕ} {n k : ℕ} → Reads s n k → k ≤ length s
+reads-inside {s} {n} {k} r = omega (arith, r .digits, ap length (r .text) ∙ length-append (decimal n) (drop k s))
 
 reads-number : (s : List ℕ) (v k : ℕ) → v < 18446744073709551616 → k ≡ length (decimal v) → Reads (decimal v ++ s) v k
 reads-number s v k h e = record { small = h; digits = e; text = ap (decimal v ++_) (sym (drop-at (decimal v) s k (sym e))) }

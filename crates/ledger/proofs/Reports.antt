@@ -81,9 +81,10 @@ line-at label s n h =
     rw (text, starts-same label (decimal n ++ 10 ∷ s), drop-append-seam label (decimal n ++ 10 ∷ s), decimal-read n (10 ∷ s) h refl, eq-eqb _ 10 feed, bytes)
 
 -- the text begins with the line of this label and n, in k bytes
-record Line (label s : List ℕ) (n k : ℕ) : Type 0 where
-  small : n < 18446744073709551616
-  text : labelledLine label n ++ drop k s ≡ s
+pub record Line (label s : List ℕ) (n k : ℕ) : Type 0 where
+  pub small : n < 18446744073709551616
+  pub inside : k ≤ length s
+  pub text : labelledLine label n ++ drop k s ≡ s
 
 -- behind a label of j bytes a number of m digits was read, and a line feed
 line-ended : (label s : List ℕ) (v m : ℕ) → startsWith label s ≡ true → Reads (drop (length label) s) v m → getD s (length label + m) 0 ≡ 10
@@ -95,6 +96,7 @@ line-ended label s v m a r feed =
     drop-drop m j s ∙ drop-cons s (j + m) 0 inside ∙ rw (feed, add-one) in
     record {
       small = r .small;
+      inside = omega arith;
       text =
           append-assoc label (decimal v ++ 10 ∷ []) _
           ∙ ap (label ++_) (append-snoc (decimal v) 10 _ ∙ ap (decimal v ++_) (sym rest) ∙ sym (r .text))
@@ -105,7 +107,7 @@ line-ended label s v m a r feed =
     go true e = ltb-true (length label + m) (length s) e
     go false e = absurd (omega (arith, List·getD-eq-default s 0 {n = length label + m} (ltb-false (length label + m) (length s) e)))
 
-line-is : (label s : List ℕ) (n k : ℕ) → lineAt label s ≡ Number n k → Line label s n k
+pub line-is : (label s : List ℕ) (n k : ℕ) → lineAt label s ≡ Number n k → Line label s n k
 unfolding lineAt lineEnded
 line-is label s n k e = go (startsWith label s) refl (decimalAt (drop (length label) s)) refl
   where

@@ -14,7 +14,7 @@ returns : tie.Need-returns
 returns c =
     let asked = c .before in
     let a = asked .before .before .args in
-    answer-impossible (a .ledger) (a .text .now) (sym (asked .possible .ensures) ∙ not-true _ (c .if1 .taken))
+    answer-impossible (a .ledger) (a .text .now) (sym (asked .possible .ensures) ∙ not-true (asked .possible .result) (c .if1 .taken))
 
 numbers-of-requires : tie.Need-numbers-of-requires
 numbers-of-requires c κs = search needs
@@ -33,7 +33,7 @@ returns-2 c =
     let asked = tested .before in
     let a = asked .before .before .args in
     answer-other-size (a .ledger) (a .text .now) (numbers .numbers-of .result) (counted .lines-length .result)
-    (sym (asked .possible .ensures) ∙ not-false _ (tested .if1 .left)) (numbers .numbers-of .ensures) (counted .lines-length .ensures) (λ e. omega arith)
+    (sym (asked .possible .ensures) ∙ not-false (asked .possible .result) (tested .if1 .left)) (numbers .numbers-of .ensures) (counted .lines-length .ensures) (λ e. omega arith)
 
 slice-aggregate-put-lines : tie.Need-slice-aggregate-put-lines
 slice-aggregate-put-lines c = search needs
@@ -54,7 +54,7 @@ returns-3 c =
     let asked = tested .before in
     let a = asked .before .before .args in
     answer-printed (a .ledger) (a .text .now) (numbers .numbers-of .result) (counted .lines-length .result)
-    (sym (asked .possible .ensures) ∙ not-false _ (tested .if1 .left)) (numbers .numbers-of .ensures) (counted .lines-length .ensures)
+    (sym (asked .possible .ensures) ∙ not-false (asked .possible .result) (tested .if1 .left)) (numbers .numbers-of .ensures) (counted .lines-length .ensures)
     (put .put-lines .last .0) (omega (arith, fits .if2 .left)) (put .put-lines .ensures)
 
 pub print-spec : {M : Type 1} → statement M
