@@ -6,7 +6,6 @@ ghost use Prim.Native.Nat.{_≤_};
 ghost use lib.ListN.{length};
 ghost use Rattle.listing_io.specs.Reading.{TurnMade};
 use frame::Edition;
-use libc::STDIN_FILENO;
 use libc::STDOUT_FILENO;
 use listing::Pieces;
 use listing_turns::Turn;
@@ -18,20 +17,12 @@ fn text_buffer() -> [u8; 80672]
     [0; 80672]
 }
 
-// Reads so many bytes, or those that there are: a read that fails counts as the end of the input.
-fn read(wanted: usize, input: &mut [u8]) -> usize
-    requires { ⌜ wanted ≤ length (now input) ⌝ }
-    ensures { λ r. ⌜ r ≤ wanted ⌝ }
-{
-    io::read_full(STDIN_FILENO, &mut input[..wanted])
-}
-
 // One turn: reads what is wanted, lists it, and writes the text.
 fn next(edition: Edition, pieces: Pieces, before: Turn, input: &mut [u8], out: &mut [u8]) -> Turn
     requires { ⌜ before .wanted ≤ length (now input) ⌝ }
     ensures { λ r. ⌜ TurnMade edition pieces before (now (input .exit)) (now (out .entry)) (now (out .exit)) r ⌝ }
 {
-    let got = read(before.wanted, input);
+    let got = input_io::read(before.wanted, input);
     let turn = listing_pieces::list_piece(edition, pieces, before.listed, &input[..got], out);
     let written = turn.written;
     io::write_all(STDOUT_FILENO, &out[..written]);

@@ -1,9 +1,9 @@
--- `listing_io::read` is safe and ends. Assumes nothing.
+-- `input_io::read` is safe and ends. Assumes nothing.
 use native.Mathlib.Omega.{arith}
 use lib.ListN.{length-take}
 use borrow.Author.Needs.{needs}
-use Rattle.listing_io.proofs.read.Statement.{statement}
-use Rattle.listing_io.proofs.read.Tie as tie
+use Rattle.input_io.proofs.read.Statement.{statement}
+use Rattle.input_io.proofs.read.Tie as tie
 
 slice-relend-prefix-read-full : tie.Need-slice-relend-prefix-read-full
 slice-relend-prefix-read-full c = search needs
