@@ -1,7 +1,7 @@
 -- Laws of reading text: what stands behind a label, and the number that digits say. Assumes nothing.
 use mathlib.Core.Path.{_≡_, refl, sym, ap, ap₂, subst, _∙_}
 use mathlib.Core.Bool.{Bool, true, false, _&&_, and-eq-true-iff}
-use mathlib.Core.List.{List, [], _∷_, _++_, append-assoc}
+use mathlib.Core.List.{List, [], _∷_, _++_}
 use Prim.Native.Nat.{ℕ, zero, suc, _+_, _-_, _*_, _/_, _%_, _<_, _≤_}
 use native.Mathlib.Numerals.{add-one}
 use native.Mathlib.Omega.{arith}
@@ -11,7 +11,6 @@ use lib.Seq.{drop-at, drop-cons, append-snoc}
 use borrow.Author.Tests.{lt-ltb, le-ltb, le-leb, eq-eqb, ne-eqb, ltb-true, ltb-false, leb-true, eqb-true, eqb-false}
 use Rattle.decimals.specs.Decimal.{digits, decimal}
 use Rattle.decimals.specs.Reading.{startsWith, isDigit, digitsFrom, decimalAt}
-use Rattle.decimals.specs.declared.Found.{Found}
 use Rattle.decimals.specs.declared.Found.the-variants.{Number, Nothing}
 use Rattle.decimals.proofs.Decimals.{leading-some, digits-one, decimal-last}
 

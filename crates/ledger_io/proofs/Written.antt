@@ -1,5 +1,5 @@
 -- The report at the start of a buffer, and how much a turn wants. Assumes nothing.
-use mathlib.Core.Path.{_≡_, refl, sym, ap, _∙_}
+use mathlib.Core.Path.{_≡_, refl, sym, _∙_, subst}
 use mathlib.Core.Bool.{Bool, true, false, cond}
 use mathlib.Core.List.{List, [], _++_}
 use Prim.Native.Nat.{ℕ, _≤_}
@@ -13,7 +13,7 @@ use Rattle.ledger.specs.declared.Ledger.{Ledger}
 use Rattle.ledger.proofs.Reports.{length-impossible, length-possible, report-length, print-impossible, print-accepted, printed, unchanged}
 use Rattle.ledger_input.specs.Input.{wantedAt, ledgerAfter, turnAfter}
 use Rattle.ledger_input.specs.declared.LedgerTurn.{LedgerTurn}
-use Rattle.ledger_io.specs.Reading.{withReport}
+use Rattle.ledger_io.specs.Reading.{TurnMade, withReport}
 
 module _ (l : Ledger) (nine : length (l .refused) ≡ 9) where
   pub length-most : lengthOf l ≤ 203
@@ -41,10 +41,13 @@ module _ (l : Ledger) (nine : length (l .refused) ≡ 9) where
           rw (same, none, p)
 
 -- no turn wants more than 2,520 frames
-pub wanted-most : (ed : Edition) (t : LedgerTurn) (s : List ℕ) → turnAfter ed t s .wanted ≤ 65520
+wanted-most : (ed : Edition) (t : LedgerTurn) (s : List ℕ) → turnAfter ed t s .wanted ≤ 65520
 unfolding turnAfter
 wanted-most ed t s = go (ltb (length s) (t .wanted))
   where
     go : (u : Bool) → cond u 0 (wantedAt (ledgerAfter ed t s .seen)) ≤ 65520
     go true = omega arith
     go false = omega arith
+
+pub made-most : {ed : Edition} {before : LedgerTurn} {input : List ℕ} {t : LedgerTurn} → TurnMade ed before input t → t .wanted ≤ 65520
+made-most {ed} {before} {input} {t} m = subst (λ (u : LedgerTurn). u .wanted ≤ 65520) (sym (m .told)) (wanted-most ed before (take (m .got) input))

@@ -41,7 +41,7 @@ fn write_report(ledger: Ledger) {
 pub fn run(edition: Edition) {
     let mut input = io::large_buffer();
     let mut turn = ledger_input::start();
-    let mut turns = 0;
+    let mut turns: u32 = 0;
     while turns < 1588 && turn.wanted != 0 {
         turn = next(edition, turn, &mut input);
         turns += 1;

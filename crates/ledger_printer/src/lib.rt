@@ -1,10 +1,8 @@
 // The printed report of a ledger: how many bytes it has, and its text.
 ghost use mathlib.Core.Path.{_≡_};
-ghost use mathlib.Core.List.{[], map};
+ghost use mathlib.Core.List.{[]};
 ghost use Prim.Native.Nat.{_+_, _≤_, _<_};
 ghost use lib.ListN.{length, getD};
-ghost use Rattle.bits.specs.Layout.{sum};
-ghost use Rattle.decimals.specs.Decimal.{decimal};
 ghost use Rattle.decimals.specs.Put.{Put};
 ghost use Rattle.ledger.specs.Report.{labels, labelledLine, labelledLines, lengthNumber, lengthOf, printNumber, printOf};
 ghost use Rattle.ledger_labels.specs.Labels.{labelText};

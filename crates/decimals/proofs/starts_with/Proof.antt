@@ -1,5 +1,5 @@
 -- `decimals::starts_with` meets its contract. Assumes nothing.
-use Prim.Native.Nat.{_-_, _≤_}
+use Prim.Native.Nat.{_-_}
 use native.Mathlib.Omega.{arith}
 use lib.ListN.{length}
 use Rattle.decimals.proofs.Readings.{Met, met-none, met-next, met-other, met-all, starts-short}

@@ -5,7 +5,7 @@ use native.Mathlib.Omega.{arith}
 use lib.ListN.{length}
 use borrow.Author.Needs.{needs}
 use Rattle.ledger_input.specs.declared.LedgerTurn.{LedgerTurn}
-use Rattle.ledger_io.proofs.Written.{wanted-most}
+use Rattle.ledger_io.proofs.Written.{made-most}
 use Rattle.ledger_io.proofs.run.Statement.{statement}
 use Rattle.ledger_io.proofs.run.Tie as tie
 
@@ -37,10 +37,7 @@ loop-less : tie.Need-loop-less Inv-loop μ-loop
 loop-less c = search needs
 
 loop-again : tie.Need-loop-again Inv-loop μ-loop
-loop-again c =
-    let made = c .before .next .ensures in
-    let e = ap (λ (t : LedgerTurn). t .wanted) (made .told) in
-    (search needs, omega (arith, wanted-most _ _ _))
+loop-again c = (search needs, made-most (c .before .next .ensures))
 
 write-report-requires : tie.Need-write-report-requires Inv-loop μ-loop
 write-report-requires c κs = search needs

@@ -1,8 +1,6 @@
 -- `ledger_printer::put_lines` meets its contract. Assumes nothing.
-use mathlib.Core.Path.{_≡_}
-use Prim.Native.Nat.{_-_, _<_, _≤_}
+use Prim.Native.Nat.{_-_, _≤_}
 use native.Mathlib.Omega.{arith}
-use lib.ListN.{length}
 use borrow.Author.Needs.{needs}
 use Rattle.ledger.specs.Report.{labels}
 use Rattle.ledger.proofs.Reports.{twelve-labels}

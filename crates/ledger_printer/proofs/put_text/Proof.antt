@@ -4,7 +4,6 @@ use Prim.Native.Nat.{_-_, _≤_}
 use native.Mathlib.Omega.{arith}
 use lib.ListN.{length, take}
 use lib.Seq.{sets, length-sets, take-all}
-use borrow.Author.Needs.{needs}
 use Rattle.ledger_printer.proofs.Printed.{stored-next}
 use Rattle.ledger_printer.proofs.put_text.Statement.{statement}
 use Rattle.ledger_printer.proofs.put_text.Tie as tie
