@@ -360,6 +360,14 @@ module _ (l : Ledger) where
   unfolding lengthNumber lengthOf
   length-possible e = (ap (λ t. cond t 0 18) e, ap (λ t. cond t (length (reportOf l)) 0) e)
 
+-- of any ledger
+pub report-most : (l : Ledger) → length (l .refused) ≡ 9 → lengthOf l ≤ 203
+report-most l nine = go (possible l) refl
+  where
+    go : (t : Bool) → possible l ≡ t → lengthOf l ≤ 203
+    go true e = omega (arith, length-possible l e .1, report-length l nine e .1)
+    go false e = omega (arith, length-impossible l e .1)
+
 module _ (l : Ledger) (n : ℕ) where
   pub print-impossible : possible l ≡ false → printNumber l n ≡ 18
   unfolding printNumber

@@ -16,13 +16,6 @@ use Rattle.ledger_input.specs.declared.LedgerTurn.{LedgerTurn}
 use Rattle.ledger_io.specs.Reading.{TurnMade, withReport}
 
 module _ (l : Ledger) (nine : length (l .refused) ≡ 9) where
-  pub length-most : lengthOf l ≤ 203
-  length-most = go (possible l) refl
-    where
-      go : (t : Bool) → possible l ≡ t → lengthOf l ≤ 203
-      go true e = omega (arith, length-possible l e .1, report-length l nine e .1)
-      go false e = omega (arith, length-impossible l e .1)
-
   pub report-put : (text v : List ℕ) (bytes : ℕ) → 203 ≤ length text → bytes ≡ lengthOf l → v ≡ printOf l (take bytes text) → v ++ drop bytes text ≡ withReport l text
   unfolding withReport
   report-put text v bytes room e f = go (possible l) refl

@@ -5,7 +5,8 @@ use native.Mathlib.Omega.{arith}
 use lib.ListN.{length, length-take}
 use borrow.Author.Needs.{needs}
 use Rattle.ledger_printer.specs.declared.ReportLength.{ReportLength}
-use Rattle.ledger_io.proofs.Written.{length-most, report-put}
+use Rattle.ledger.proofs.Reports.{report-most}
+use Rattle.ledger_io.proofs.Written.{report-put}
 use Rattle.ledger_io.proofs.put_report.Statement.{statement}
 use Rattle.ledger_io.proofs.put_report.Tie as tie
 
@@ -16,7 +17,7 @@ nine c = search needs
 bytes-most : (c : tie.After-report-length) → c .report-length .result .bytes ≤ 203
 bytes-most c =
     let l = c .before .before .args .ledger in
-    omega (arith, ap (λ (n : ReportLength). n .bytes) (c .report-length .ensures), length-most l (nine (c .before .before)))
+    omega (arith, ap (λ (n : ReportLength). n .bytes) (c .report-length .ensures), report-most l (nine (c .before .before)))
 
 report-length-requires : tie.Need-report-length-requires
 report-length-requires c κs = search needs

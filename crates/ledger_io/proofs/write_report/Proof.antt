@@ -4,7 +4,7 @@ use Prim.Native.Nat.{_≤_}
 use native.Mathlib.Omega.{arith}
 use lib.ListN.{length, length-take}
 use borrow.Author.Needs.{needs}
-use Rattle.ledger_io.proofs.Written.{length-most}
+use Rattle.ledger.proofs.Reports.{report-most}
 use Rattle.ledger_io.proofs.write_report.Statement.{statement}
 use Rattle.ledger_io.proofs.write_report.Tie as tie
 
@@ -13,7 +13,7 @@ nine c = search needs
 
 -- what is written stands in the buffer
 short : (c : tie.After-put-report) → c .put-report .result ≤ 203
-short c = let s = c .before .before in omega (arith, c .put-report .ensures .0, length-most (s .args .ledger) (nine s))
+short c = let s = c .before .before in omega (arith, c .put-report .ensures .0, report-most (s .args .ledger) (nine s))
 
 slice-aggregate-put-report : tie.Need-slice-aggregate-put-report
 slice-aggregate-put-report c = search needs
