@@ -2,7 +2,7 @@
 //
 // Every exported function takes any numbers and any bytes of any length; where a frame or record is judged, the first number names the edition (0 the
 // first, 1 area safety, any other is taken for the first). Most return a status: the refusal's number in the low 8 bits, 0 where there is none, and above
-// them what else they tell; gvz_capture_source, gvz_capture_numbers and gvz_crc32 refuse nothing and return their answer itself. A record, word, place or
+// them what else they tell; gvz_capture_source, gvz_capture_numbers and gvz_crc32 refuse nothing and return their answer itself. A record, ledger, word, place or
 // field buffer whose length is wrong is refusal 1, before anything else is looked at, and a refusal leaves every lent buffer as it was. The definitions
 // stand in the specs/ of the crates that are called.
 ghost use mathlib.Core.Path.{_≡_};
@@ -14,6 +14,7 @@ ghost use Rattle.abi_frame.specs.Frame.{frameReadStatus, frameReadRecord, frame
 ghost use Rattle.abi_marked_frame.specs.Judged.{judgeMarkedStatus};
 ghost use Rattle.abi_place.specs.Place.{reportStatus, reportPlace, deskStatus, deskFields};
 ghost use Rattle.abi_receiver.specs.Receiver.{followStatus, captureSource, captureNumbers};
+ghost use Rattle.abi_ledger.specs.Ledger.{countStatus, countNumbers, lengthStatus, printStatus, printText, parseStatus, parseNumbers};
 ghost use Rattle.abi_header.specs.Header.{headerReadStatus, headerReadValues, headerWriteStatus, headerWriteBytes};
 ghost use Rattle.abi_laying.specs.Laying.{layInStatus, takeOutStatus};
 ghost use Rattle.header_laying.specs.Laying.{layInOf, takeOutOf};
@@ -127,6 +128,38 @@ pub extern "C" fn gvz_capture_numbers(edition: u32, main: &[u8], spare: &[u8], n
     ensures { λ r. ⌜ r ≡ captureNumbers (editionOf edition) (now (main .entry)) (now (spare .entry)) n ⌝ }
 {
     abi_receiver::capture_numbers(edition, main, spare, n)
+}
+
+// The day's ledger: a frame counted, how many bytes the report has, the report printed, and read.
+#[no_mangle]
+pub extern "C" fn gvz_ledger_count(edition: u32, ledger: &mut [u64], frame: &[u8]) -> u32
+    ensures { λ r. ⌜ r ≡ countStatus (editionOf edition) (now (ledger .entry)) (now (frame .entry)) ⌝ }
+    ensures { λ _. ⌜ now (ledger .exit) ≡ countNumbers (editionOf edition) (now (ledger .entry)) (now (frame .entry)) ⌝ }
+{
+    abi_ledger::ledger_count(edition, ledger, frame)
+}
+
+#[no_mangle]
+pub extern "C" fn gvz_ledger_length(ledger: &[u64]) -> u32
+    ensures { λ r. ⌜ r ≡ lengthStatus (now (ledger .entry)) ⌝ }
+{
+    abi_ledger::ledger_length(ledger)
+}
+
+#[no_mangle]
+pub extern "C" fn gvz_ledger_print(ledger: &[u64], text: &mut [u8]) -> u32
+    ensures { λ r. ⌜ r ≡ printStatus (now (ledger .entry)) (now (text .entry)) ⌝ }
+    ensures { λ _. ⌜ now (text .exit) ≡ printText (now (ledger .entry)) (now (text .entry)) ⌝ }
+{
+    abi_ledger::ledger_print(ledger, text)
+}
+
+#[no_mangle]
+pub extern "C" fn gvz_ledger_parse(text: &[u8], ledger: &mut [u64]) -> u32
+    ensures { λ r. ⌜ r ≡ parseStatus (now (text .entry)) (now (ledger .entry)) ⌝ }
+    ensures { λ _. ⌜ now (ledger .exit) ≡ parseNumbers (now (text .entry)) (now (ledger .entry)) ⌝ }
+{
+    abi_ledger::ledger_parse(text, ledger)
 }
 
 #[no_mangle]
