@@ -17,7 +17,13 @@ static const char CANCELLATION[] = "1af70000000001001fffffffffffe43d0ff2f235a3cb
 static const char NO_INFORMATION[] = "1af77fffffffffffffffffffffff698fbee80b006e0824cd3d10";
 static const char AREA_SAFETY[] = "1af705123456789abcdef01234563dee663d35a7819a35d06b00";
 static const char AREA_SAFETY_TEST[] = "1af706000047d0f1123446789abdb994d4f1064d5410673bf7c0";
+static const char FILLER_SET[] = "1af7000000000000000000000000000000000000000000000001";
+static const char NO_PATTERN[] = "0000000000000000000000000000000000000000000000000000";
 static const char CLEAN_WRONG_CRC[] = "1af7000000000000000000000000004308c01110114014404110";
+static const char IDENTIFICATION_4[] = "1af7640000000000000000000000dd6ba7e8239c630ae7c28140";
+static const char UPDATE_2_OF_7[] = "1af777ffffffff00bfffffffffff3e583d134b51523b875a54e0";
+static const char B111_IS_0[] = "1af7000000000100070a0000000071fee4dcd9339873b730f150";
+static const char LATITUDE_901[] = "1af70a0000000ba58f0baea14709a335ac25ca42ddbf9efe2c30";
 
 /* The editions, and numbers that are taken for the first; the last two are area safety in their low bits alone. */
 static const uint32_t EDITIONS[] = {GVZ_EDITION_FIRST, GVZ_EDITION_AREA_SAFETY, 2, 0xFFFFFFFF, 257, 65537};
@@ -317,14 +323,14 @@ static void test_frame_read(void)
     expect_frame_read("no information", NO_INFORMATION, 26, 21, 0, nothing);
     expect_frame_read("a place", PLACE, 26, 21, 0, place_record);
     expect_frame_read("25 bytes", ALL_AREAS, 25, 21, GVZ_REFUSAL_WRONG_LENGTH, NULL);
-    expect_frame_read("filler", "1af7000000000000000000000000000000000000000000000001", 26, 21, GVZ_REFUSAL_FILLER_SET, NULL);
-    expect_frame_read("no pattern", "0000000000000000000000000000000000000000000000000000", 26, 21, GVZ_REFUSAL_NO_PATTERN, NULL);
+    expect_frame_read("filler", FILLER_SET, 26, 21, GVZ_REFUSAL_FILLER_SET, NULL);
+    expect_frame_read("no pattern", NO_PATTERN, 26, 21, GVZ_REFUSAL_NO_PATTERN, NULL);
     expect_frame_read("nine hits", NINE_HITS, 26, 21, GVZ_REFUSAL_BEYOND_REPAIR, NULL);
     expect_frame_read("CRC", CLEAN_WRONG_CRC, 26, 21, GVZ_REFUSAL_FRAME_CRC, NULL);
-    expect_frame_read("identification 4", "1af7640000000000000000000000dd6ba7e8239c630ae7c28140", 26, 21, GVZ_REFUSAL_IDENTIFICATION, NULL);
-    expect_frame_read("update 2 of 7", "1af777ffffffff00bfffffffffff3e583d134b51523b875a54e0", 26, 21, GVZ_REFUSAL_START_END_OR_UPDATE, NULL);
-    expect_frame_read("B111", "1af7000000000100070a0000000071fee4dcd9339873b730f150", 26, 21, GVZ_REFUSAL_FIXED_BIT, NULL);
-    expect_frame_read("latitude 901", "1af70a0000000ba58f0baea14709a335ac25ca42ddbf9efe2c30", 26, 21, GVZ_REFUSAL_OVER_LIMIT, NULL);
+    expect_frame_read("identification 4", IDENTIFICATION_4, 26, 21, GVZ_REFUSAL_IDENTIFICATION, NULL);
+    expect_frame_read("update 2 of 7", UPDATE_2_OF_7, 26, 21, GVZ_REFUSAL_START_END_OR_UPDATE, NULL);
+    expect_frame_read("B111", B111_IS_0, 26, 21, GVZ_REFUSAL_FIXED_BIT, NULL);
+    expect_frame_read("latitude 901", LATITUDE_901, 26, 21, GVZ_REFUSAL_OVER_LIMIT, NULL);
     for (int i = 0; i < LENGTHS; i++) {
         expect_frame_read("a record of another length", ALL_AREAS, 26, OTHER_LENGTHS[i], GVZ_REFUSAL_WRONG_LENGTH, NULL);
     }
@@ -465,13 +471,13 @@ static void test_marked_refusals(void)
         const char *what, *digits;
         uint32_t few, many;
     } frames[] = {
-        {"filler, before the marks", "1af7000000000000000000000000000000000000000000000001", 2, 2},
-        {"no pattern, before the marks", "0000000000000000000000000000000000000000000000000000", 3, 3},
+        {"filler, before the marks", FILLER_SET, 2, 2},
+        {"no pattern, before the marks", NO_PATTERN, 3, 3},
         {"CRC, after the marks", CLEAN_WRONG_CRC, 5, 4},
-        {"identification 4, after the marks", "1af7640000000000000000000000dd6ba7e8239c630ae7c28140", 6, 4},
-        {"update 2 of 7, after the marks", "1af777ffffffff00bfffffffffff3e583d134b51523b875a54e0", 7, 4},
-        {"B111, after the marks", "1af7000000000100070a0000000071fee4dcd9339873b730f150", 8, 4},
-        {"latitude 901, after the marks", "1af70a0000000ba58f0baea14709a335ac25ca42ddbf9efe2c30", 9, 4},
+        {"identification 4, after the marks", IDENTIFICATION_4, 6, 4},
+        {"update 2 of 7, after the marks", UPDATE_2_OF_7, 7, 4},
+        {"B111, after the marks", B111_IS_0, 8, 4},
+        {"latitude 901, after the marks", LATITUDE_901, 9, 4},
     };
     for (size_t i = 0; i < sizeof frames / sizeof *frames; i++) {
         uint8_t frame[GVZ_FRAME_BYTES + 1] = {0}, marks[GVZ_FRAME_BYTES + 1] = {0};
