@@ -932,6 +932,365 @@ static void test_safety_captures(void)
     }
 }
 
+/* ---- The day's ledger */
+
+/* A frame for each refusal, at its number. That of 1 is handed over a byte short. */
+static const char *const REFUSED[] = {
+    [GVZ_REFUSAL_WRONG_LENGTH] = ALL_AREAS,
+    [GVZ_REFUSAL_FILLER_SET] = FILLER_SET,
+    [GVZ_REFUSAL_NO_PATTERN] = NO_PATTERN,
+    [GVZ_REFUSAL_BEYOND_REPAIR] = NINE_HITS,
+    [GVZ_REFUSAL_FRAME_CRC] = CLEAN_WRONG_CRC,
+    [GVZ_REFUSAL_IDENTIFICATION] = IDENTIFICATION_4,
+    [GVZ_REFUSAL_START_END_OR_UPDATE] = UPDATE_2_OF_7,
+    [GVZ_REFUSAL_FIXED_BIT] = B111_IS_0,
+    [GVZ_REFUSAL_OVER_LIMIT] = LATITUDE_901,
+};
+
+/* Document 02's sample, the two pieces of document 01's listing, and its report. */
+static const uint64_t TWO_PIECES[GVZ_LEDGER_VALUES] = {[GVZ_LEDGER_SEEN] = 2, [GVZ_LEDGER_REFUSED(1)] = 1, [GVZ_LEDGER_ACCEPTED] = 1};
+static const char TWO_PIECES_TEXT[] =
+    "seen 2\n"
+    "refused 1 1\nrefused 2 0\nrefused 3 0\nrefused 4 0\nrefused 5 0\nrefused 6 0\nrefused 7 0\nrefused 8 0\nrefused 9 0\n"
+    "accepted 1\nrepaired 0\n";
+
+/* Ledgers of which one frame more can be counted: a fresh one, one with frames of all sorts, and those that it fills. */
+static const uint64_t OPEN[][GVZ_LEDGER_VALUES] = {
+    {0},
+    {55, 1, 2, 3, 4, 5, 6, 7, 8, 9, 10, 80},
+    {3999999, [GVZ_LEDGER_REFUSED(4)] = 3999999},
+    {3999999, [GVZ_LEDGER_ACCEPTED] = 3999999, 31999992},
+};
+enum { OPEN_LEDGERS = sizeof OPEN / sizeof *OPEN };
+
+/* Ledgers that no list of at most 4,000,000 frames gives; sums and products among them that are right only when cut to 64 or to 32 bits. */
+static const struct {
+    const char *what;
+    uint64_t ledger[GVZ_LEDGER_VALUES];
+} IMPOSSIBLE[] = {
+    {"one more seen than there are", {3, 1, [GVZ_LEDGER_ACCEPTED] = 1}},
+    {"one fewer seen", {1, 1, [GVZ_LEDGER_ACCEPTED] = 1}},
+    {"none seen", {0, [GVZ_LEDGER_REFUSED(9)] = 1}},
+    {"nine places of one frame", {1, [GVZ_LEDGER_ACCEPTED] = 1, 9}},
+    {"a place of a refused frame", {1, 1, [GVZ_LEDGER_REPAIRED] = 1}},
+    {"4,000,001 refused", {4000001, [GVZ_LEDGER_REFUSED(3)] = 4000001}},
+    {"4,000,001 accepted", {4000001, [GVZ_LEDGER_ACCEPTED] = 4000001}},
+    {"4,000,000 seen, and one fewer is there", {4000000, 3999999}},
+    {"4,000,000 seen, and one more is there", {4000000, 4000000, 1}},
+    {"4,000,000 seen, a place too many", {4000000, [GVZ_LEDGER_ACCEPTED] = 4000000, 32000001}},
+    {"a sum of 2^64 and 2", {2, UINT64_MAX, 3}},
+    {"a sum of 2^64", {0, [GVZ_LEDGER_REFUSED(9)] = UINT64_C(1) << 63, UINT64_C(1) << 63}},
+    {"8 times 2^61 places", {0, [GVZ_LEDGER_ACCEPTED] = UINT64_C(1) << 61, UINT64_MAX}},
+    {"2^32 and 2 seen", {(UINT64_C(1) << 32) + 2, 1, [GVZ_LEDGER_ACCEPTED] = 1}},
+    {"2^32 places", {2, 1, [GVZ_LEDGER_ACCEPTED] = 1, UINT64_C(1) << 32}},
+    {"ones", {1, 1, 1, 1, 1, 1, 1, 1, 1, 1, 1, 1}},
+    {"the largest numbers", {UINT64_MAX, UINT64_MAX, UINT64_MAX, UINT64_MAX, UINT64_MAX, UINT64_MAX, UINT64_MAX, UINT64_MAX, UINT64_MAX,
+        UINT64_MAX, UINT64_MAX, UINT64_MAX}},
+};
+enum { IMPOSSIBLE_LEDGERS = sizeof IMPOSSIBLE / sizeof *IMPOSSIBLE };
+
+/* The 14 values that a test lends: a ledger, and two that hold 7. */
+enum { LENT = GVZ_LEDGER_VALUES + 2 };
+
+static void lend(const uint64_t *ledger, uint64_t *lent)
+{
+    memcpy(lent, ledger, GVZ_LEDGER_VALUES * sizeof *ledger);
+    lent[GVZ_LEDGER_VALUES] = lent[GVZ_LEDGER_VALUES + 1] = 7;
+}
+
+/* The ledger with one frame more: refused with this number, or where it is 0 accepted with so many repaired places. */
+static const uint64_t *one_more(const uint64_t *before, uint32_t number, uint64_t places)
+{
+    static uint64_t after[GVZ_LEDGER_VALUES];
+    memcpy(after, before, sizeof after);
+    after[GVZ_LEDGER_SEEN]++;
+    if (number != GVZ_REFUSAL_NONE) {
+        after[GVZ_LEDGER_REFUSED(number)]++;
+        return after;
+    }
+    after[GVZ_LEDGER_ACCEPTED]++;
+    after[GVZ_LEDGER_REPAIRED] += places;
+    return after;
+}
+
+/* One frame counted: the ledger is left as `after`. */
+static void expect_count_by(uint32_t edition, const char *what, const uint64_t *before, size_t ledger_len, const uint8_t *frame,
+    size_t frame_len, uint32_t status, const uint64_t *after)
+{
+    uint64_t left[LENT], expected[LENT];
+    lend(before, left);
+    lend(after, expected);
+    expect_left(what, gvz_ledger_count(edition, left, ledger_len, frame, frame_len), status, left, expected, sizeof left);
+}
+
+/* The same by every edition. */
+static void expect_count(const char *what, const uint64_t *before, size_t ledger_len, const uint8_t *frame, size_t frame_len,
+    uint32_t status, const uint64_t *after)
+{
+    for (int i = 0; i < NUMBERS; i++) {
+        expect_count_by(EDITIONS[i], what, before, ledger_len, frame, frame_len, status, after);
+    }
+}
+
+/* Each refusal and each number of repaired places. */
+static void test_ledger_count(const uint64_t *before)
+{
+    uint8_t frame[GVZ_FRAME_BYTES];
+    for (uint32_t number = 1; number <= 9; number++) {
+        expect_count("a refused frame", before, 12, frame_of(REFUSED[number]), number == 1 ? 25 : 26, 0, one_more(before, number, 0));
+    }
+    for (unsigned hits = 0; hits <= 8; hits++) {
+        set_places(frame, hits);
+        frame[0] = 0x1A;
+        frame[1] = 0xF7;
+        expect_count("an accepted frame", before, 12, frame, 26, 0, one_more(before, 0, hits));
+    }
+    expect_count("three synchronising bits are no repaired places", before, 12, frame_of(THREE_SYNC_BITS), 26, 0, one_more(before, 0, 8));
+    expect_count("no information", before, 12, frame_of(NO_INFORMATION), 26, 0, one_more(before, 0, 0));
+    for (int i = 0; i < NUMBERS; i++) {
+        uint32_t number = EDITIONS[i] == GVZ_EDITION_AREA_SAFETY ? 0 : GVZ_REFUSAL_IDENTIFICATION;
+        expect_count_by(EDITIONS[i], "area safety", before, 12, frame_of(AREA_SAFETY), 26, 0, one_more(before, number, 0));
+        expect_count_by(EDITIONS[i], "its test, eight hits", before, 12, frame_of(AREA_SAFETY_TEST), 26, 0, one_more(before, number, 8));
+    }
+    for (size_t n = 0; n <= 40; n++) {
+        if (n != GVZ_FRAME_BYTES) {
+            static const uint8_t zeros[40] = {0};
+            expect_count("a frame of another length", before, 12, zeros, n, 0, one_more(before, GVZ_REFUSAL_WRONG_LENGTH, 0));
+        }
+    }
+}
+
+/* Document 02's sample, and a list that is counted to its end: the next frame is 19, whatever it is, and an emptied ledger starts anew. */
+static void test_ledger_list(void)
+{
+    static const uint64_t refused_1[GVZ_LEDGER_VALUES] = {4000000, 4000000};
+    uint64_t ledger[GVZ_LEDGER_VALUES] = {0};
+    uint32_t status = gvz_ledger_count(GVZ_EDITION_FIRST, ledger, 12, frame_of(ALL_AREAS), 26);
+    expect("a clean frame", status == 0);
+    status = gvz_ledger_count(GVZ_EDITION_FIRST, ledger, 12, frame_of(ALL_AREAS), 5);
+    expect_left("and then five bytes", status, 0, ledger, TWO_PIECES, sizeof ledger);
+
+    memset(ledger, 0, sizeof ledger);
+    const uint8_t *frame = frame_of(ALL_AREAS);
+    int all = 1;
+    for (int i = 0; i < GVZ_LEDGER_MOST_FRAMES; i++) {
+        all = gvz_ledger_count(GVZ_EDITION_FIRST, ledger, 12, frame, 5) == 0 && all;
+    }
+    expect("4,000,000 frames", all && memcmp(ledger, refused_1, sizeof ledger) == 0);
+    status = gvz_ledger_count(GVZ_EDITION_FIRST, ledger, 12, frame, 5);
+    expect_left("the next one", status, GVZ_REFUSAL_LEDGER_FULL, ledger, refused_1, sizeof ledger);
+    memset(ledger, 0, sizeof ledger);
+    status = gvz_ledger_count(GVZ_EDITION_FIRST, ledger, 12, frame_of(THREE_SYNC_BITS), 26);
+    expect_left("an emptied ledger", status, 0, ledger, one_more(OPEN[0], 0, 8), sizeof ledger);
+}
+
+/* 3,999,999 frames and one more, and then 19. */
+static void test_ledger_full(const uint64_t *before)
+{
+    uint64_t full[GVZ_LEDGER_VALUES];
+    memcpy(full, before, sizeof full);
+    uint32_t status = gvz_ledger_count(GVZ_EDITION_FIRST, full, 12, frame_of(ONE_HIT), 26);
+    expect_left("the last frame", status, 0, full, one_more(before, 0, 1), sizeof full);
+    expect_count("no frame after it", full, 12, NULL, 0, GVZ_REFUSAL_LEDGER_FULL, full);
+    expect_count("an accepted frame after it", full, 12, frame_of(ALL_AREAS), 26, GVZ_REFUSAL_LEDGER_FULL, full);
+    expect_count("area safety after it", full, 12, frame_of(AREA_SAFETY), 26, GVZ_REFUSAL_LEDGER_FULL, full);
+    for (uint32_t number = 1; number <= 9; number++) {
+        expect_count("a refused frame after it", full, 12, frame_of(REFUSED[number]), number == 1 ? 25 : 26, GVZ_REFUSAL_LEDGER_FULL, full);
+    }
+}
+
+/* Of 220 bytes that hold 0xA5 the first ones are left as `text`, if it is not NULL, and the rest as they were. */
+static void expect_print(const char *what, const uint64_t *ledger, size_t ledger_len, size_t text_len, uint32_t status, const char *text)
+{
+    uint64_t lent[LENT];
+    uint8_t left[220], expected[220];
+    lend(ledger, lent);
+    memset(left, 0xA5, sizeof left);
+    memset(expected, 0xA5, sizeof expected);
+    if (text != NULL) {
+        memcpy(expected, text, strlen(text));
+    }
+    expect_left(what, gvz_ledger_print(lent, ledger_len, left, text_len), status, left, expected, sizeof left);
+}
+
+/* Of 14 values that hold 7 the first 12 are left as `ledger`, if it is not NULL, and the rest as they were. */
+static void expect_parse(const char *what, const char *text, size_t text_len, size_t ledger_len, uint32_t status, const uint64_t *ledger)
+{
+    static const uint64_t sevens[GVZ_LEDGER_VALUES] = {7, 7, 7, 7, 7, 7, 7, 7, 7, 7, 7, 7};
+    uint64_t left[LENT], expected[LENT];
+    lend(sevens, left);
+    lend(ledger != NULL ? ledger : sevens, expected);
+    expect_left(what, gvz_ledger_parse((const uint8_t *)text, text_len, left, ledger_len), status, left, expected, sizeof left);
+}
+
+/* A report has its length, is printed into a buffer of that length alone, and is read again; cut off anywhere it is none. */
+static void expect_report_of(const char *what, const uint64_t *ledger, size_t length, const char *text)
+{
+    uint32_t status = gvz_ledger_length(ledger, 12);
+    expect(what, strlen(text) == length && status == length << 8 && GVZ_REFUSAL(status) == 0 && GVZ_LEDGER_LENGTH(status) == length);
+    expect_print(what, ledger, 12, length, 0, text);
+    expect_parse(what, text, length, 12, 0, ledger);
+    for (size_t n = 0; n <= 220; n++) {
+        if (n != length) {
+            expect_print("a buffer of another size", ledger, 12, n, GVZ_REFUSAL_BUFFER_SIZE, NULL);
+        }
+    }
+    for (size_t n = 0; n < length; n++) {
+        expect_parse("cut off", text, n, 12, GVZ_REFUSAL_IMPOSSIBLE_LEDGER, NULL);
+        expect_parse("cut off in front", text + length - n, n, 12, GVZ_REFUSAL_IMPOSSIBLE_LEDGER, NULL);
+    }
+    expect_parse("the zero byte behind it", text, length + 1, 12, GVZ_REFUSAL_IMPOSSIBLE_LEDGER, NULL);
+}
+
+static void test_ledger_reports(void)
+{
+    static const uint64_t longest[GVZ_LEDGER_VALUES] = {
+        3950000, 1000000, 1000000, 100000, 100000, 100000, 100000, 100000, 100000, 100000, 1250000, 10000000};
+    static const uint64_t full[GVZ_LEDGER_VALUES] = {4000000, [GVZ_LEDGER_ACCEPTED] = 4000000, 32000000};
+    expect_report_of("the fresh ledger", OPEN[0], 137,
+        "seen 0\n"
+        "refused 1 0\nrefused 2 0\nrefused 3 0\nrefused 4 0\nrefused 5 0\nrefused 6 0\nrefused 7 0\nrefused 8 0\nrefused 9 0\n"
+        "accepted 0\nrepaired 0\n");
+    expect_report_of("document 02's sample", TWO_PIECES, 137, TWO_PIECES_TEXT);
+    expect_report_of("frames of all sorts", OPEN[1], 140,
+        "seen 55\n"
+        "refused 1 1\nrefused 2 2\nrefused 3 3\nrefused 4 4\nrefused 5 5\nrefused 6 6\nrefused 7 7\nrefused 8 8\nrefused 9 9\n"
+        "accepted 10\nrepaired 80\n");
+    expect_report_of("4,000,000 frames of eight places", full, 156,
+        "seen 4000000\n"
+        "refused 1 0\nrefused 2 0\nrefused 3 0\nrefused 4 0\nrefused 5 0\nrefused 6 0\nrefused 7 0\nrefused 8 0\nrefused 9 0\n"
+        "accepted 4000000\nrepaired 32000000\n");
+    expect_report_of("the longest report", longest, GVZ_LEDGER_REPORT_MOST,
+        "seen 3950000\n"
+        "refused 1 1000000\nrefused 2 1000000\nrefused 3 100000\nrefused 4 100000\nrefused 5 100000\nrefused 6 100000\n"
+        "refused 7 100000\nrefused 8 100000\nrefused 9 100000\n"
+        "accepted 1250000\nrepaired 10000000\n");
+}
+
+/* 18, before 19 and before 27, and everything stays. */
+static void test_ledger_impossible(void)
+{
+    static const size_t sizes[] = {0, 136, 137, 138, 202, 203, 204};
+    const uint32_t impossible = GVZ_REFUSAL_IMPOSSIBLE_LEDGER;
+    for (int i = 0; i < IMPOSSIBLE_LEDGERS; i++) {
+        const char *what = IMPOSSIBLE[i].what;
+        const uint64_t *ledger = IMPOSSIBLE[i].ledger;
+        expect_count(what, ledger, 12, frame_of(ALL_AREAS), 26, impossible, ledger);
+        expect_count(what, ledger, 12, frame_of(NO_PATTERN), 26, impossible, ledger);
+        expect_count(what, ledger, 12, NULL, 0, impossible, ledger);
+        expect(what, gvz_ledger_length(ledger, 12) == impossible);
+        for (size_t j = 0; j < sizeof sizes / sizeof *sizes; j++) {
+            expect_print(what, ledger, 12, sizes[j], impossible, NULL);
+        }
+    }
+}
+
+/* The sample's report with one piece of it replaced, where it stands first. */
+static void expect_no_report(const char *what, const char *piece, const char *instead)
+{
+    char text[400];
+    const char *at = strstr(TWO_PIECES_TEXT, piece);
+    int length = snprintf(text, sizeof text, "%.*s%s%s", (int)(at - TWO_PIECES_TEXT), TWO_PIECES_TEXT, instead, at + strlen(piece));
+    expect_parse(what, text, (size_t)length, 12, GVZ_REFUSAL_IMPOSSIBLE_LEDGER, NULL);
+}
+
+static void test_ledger_texts(void)
+{
+    expect_no_report("a 0 before a digit", "seen 2", "seen 02");
+    expect_no_report("a 0 before a 0", "refused 9 0", "refused 9 00");
+    expect_no_report("a 0 before a refusal's number", "refused 3 0", "refused 03 0");
+    expect_no_report("no last newline", "repaired 0\n", "repaired 0");
+    expect_no_report("a newline more", "repaired 0\n", "repaired 0\n\n");
+    expect_no_report("a digit behind", "repaired 0\n", "repaired 0\n0");
+    expect_no_report("a space behind", "repaired 0\n", "repaired 0\n ");
+    expect_no_report("an empty line in front", "seen", "\nseen");
+    expect_no_report("a space in front", "seen", " seen");
+    expect_no_report("an empty line", "accepted", "\naccepted");
+    expect_no_report("a carriage return", "seen 2", "seen 2\r");
+    expect_no_report("a space before the newline", "accepted 1", "accepted 1 ");
+    expect_no_report("two spaces", "accepted 1", "accepted  1");
+    expect_no_report("two spaces in a name", "refused 5", "refused  5");
+    expect_no_report("a tab", "repaired 0", "repaired\t0");
+    expect_no_report("no space", "repaired 0", "repaired0");
+    expect_no_report("no number", "repaired 0", "repaired ");
+    expect_no_report("a sign", "accepted 1", "accepted +1");
+    expect_no_report("less than none", "repaired 0", "repaired -0");
+    expect_no_report("a fraction", "repaired 0", "repaired 0.0");
+    expect_no_report("a hexadecimal number", "repaired 0", "repaired 0x0");
+    expect_no_report("a capital letter", "accepted", "Accepted");
+    expect_no_report("another name", "refused 9", "refused 10");
+    expect_no_report("a line left out", "refused 9 0\n", "");
+    expect_no_report("a line twice", "refused 9 0\n", "refused 9 0\nrefused 9 0\n");
+    expect_no_report("two lines exchanged", "refused 2 0\nrefused 3 0\n", "refused 3 0\nrefused 2 0\n");
+    expect_no_report("seen is not the sum", "seen 2", "seen 1");
+    expect_no_report("a refused frame less", "refused 1 1", "refused 1 0");
+    expect_no_report("nine places of one frame", "repaired 0", "repaired 9");
+    expect_no_report("2^32 more", "seen 2", "seen 4294967298");
+    expect_no_report("2^64 more", "seen 2", "seen 18446744073709551618");
+    expect_no_report("2^64 places", "repaired 0", "repaired 18446744073709551616");
+    expect_no_report("40 digits", "refused 5 0", "refused 5 1000000000000000000000000000000000000000");
+    expect_no_report("4,000,001 frames", "seen 2\nrefused 1 1", "seen 4000001\nrefused 1 4000000");
+}
+
+/* Each byte of the sample's report changed to every other. The digit of the repaired places may be another up to 8, and nothing else may. */
+static void test_ledger_bytes(void)
+{
+    const size_t length = strlen(TWO_PIECES_TEXT), digit = length - 2;
+    for (size_t at = 0; at < length; at++) {
+        for (int byte = 0; byte < 256; byte++) {
+            char text[sizeof TWO_PIECES_TEXT];
+            uint64_t ledger[GVZ_LEDGER_VALUES];
+            memcpy(text, TWO_PIECES_TEXT, sizeof text);
+            memcpy(ledger, TWO_PIECES, sizeof ledger);
+            text[at] = (char)byte;
+            if (text[at] == TWO_PIECES_TEXT[at] || (at == digit && byte >= '0' && byte <= '8')) {
+                ledger[GVZ_LEDGER_REPAIRED] = (uint64_t)(text[digit] - '0');
+                expect_parse("another number of repaired places", text, length, 12, 0, ledger);
+            } else {
+                expect_parse("a byte changed", text, length, 12, GVZ_REFUSAL_IMPOSSIBLE_LEDGER, NULL);
+            }
+        }
+    }
+}
+
+/* A ledger of another length is 1 before all else. */
+static void test_ledger_lengths(const uint64_t *ledger)
+{
+    const uint32_t wrong_length = GVZ_REFUSAL_WRONG_LENGTH;
+    for (size_t n = 0; n <= LENT; n++) {
+        if (n != GVZ_LEDGER_VALUES) {
+            uint64_t lent[LENT];
+            lend(ledger, lent);
+            expect_count("a ledger of another length", ledger, n, frame_of(ALL_AREAS), 26, wrong_length, ledger);
+            expect_count("a ledger of another length, no frame", ledger, n, NULL, 0, wrong_length, ledger);
+            expect("a ledger of another length to measure", gvz_ledger_length(lent, n) == wrong_length);
+            expect_print("a ledger of another length to print", ledger, n, 137, wrong_length, NULL);
+            expect_print("a ledger of another length, no buffer", ledger, n, 0, wrong_length, NULL);
+            expect_parse("a ledger of another length to read into", TWO_PIECES_TEXT, 137, n, wrong_length, NULL);
+            expect_parse("a ledger of another length, no report", TWO_PIECES_TEXT, 136, n, wrong_length, NULL);
+        }
+    }
+}
+
+static void test_ledgers(void)
+{
+    for (int i = 0; i < OPEN_LEDGERS; i++) {
+        test_ledger_count(OPEN[i]);
+        test_ledger_lengths(OPEN[i]);
+        if (OPEN[i][GVZ_LEDGER_SEEN] == GVZ_LEDGER_MOST_FRAMES - 1) {
+            test_ledger_full(OPEN[i]);
+        }
+    }
+    for (int i = 0; i < IMPOSSIBLE_LEDGERS; i++) {
+        test_ledger_lengths(IMPOSSIBLE[i].ledger);
+    }
+    test_ledger_list();
+    test_ledger_impossible();
+    test_ledger_reports();
+    test_ledger_texts();
+    test_ledger_bytes();
+}
+
 /* ---- The cable header */
 
 /* All streams valid, with the identifiers (i, 1) for stream i, empty slots and no frame. */
@@ -1242,6 +1601,26 @@ static void test_null_marked(uint32_t edition)
             && gvz_lay_in_marked(edition, NULL, 0, NULL, 0, NULL, 0) == wrong_length);
 }
 
+static void test_null_ledger(uint32_t edition)
+{
+    uint8_t text[sizeof TWO_PIECES_TEXT] = {0};
+    const uint8_t *frame = frame_of(ALL_AREAS), *report = (const uint8_t *)TWO_PIECES_TEXT;
+    uint64_t ledger[GVZ_LEDGER_VALUES];
+    const uint32_t wrong_length = GVZ_REFUSAL_WRONG_LENGTH, impossible = GVZ_REFUSAL_IMPOSSIBLE_LEDGER;
+
+    memcpy(ledger, TWO_PIECES, sizeof ledger);
+    expect_left("no frame is counted as refused", gvz_ledger_count(edition, ledger, 12, NULL, 0), 0, ledger, one_more(TWO_PIECES, 1, 0),
+        sizeof ledger);
+    expect("no ledger", gvz_ledger_count(edition, NULL, 0, frame, 26) == wrong_length && gvz_ledger_count(edition, NULL, 0, NULL, 0) == wrong_length
+            && gvz_ledger_length(NULL, 0) == wrong_length);
+    expect("no ledger to print", gvz_ledger_print(NULL, 0, text, 137) == wrong_length && gvz_ledger_print(NULL, 0, NULL, 0) == wrong_length);
+    expect("no buffer", gvz_ledger_print(TWO_PIECES, 12, NULL, 0) == GVZ_REFUSAL_BUFFER_SIZE
+            && gvz_ledger_print(IMPOSSIBLE[0].ledger, 12, NULL, 0) == impossible);
+    memcpy(ledger, IMPOSSIBLE[0].ledger, sizeof ledger);
+    expect_left("no text", gvz_ledger_parse(NULL, 0, ledger, 12), impossible, ledger, IMPOSSIBLE[0].ledger, sizeof ledger);
+    expect("no ledger to read into", gvz_ledger_parse(report, 137, NULL, 0) == wrong_length && gvz_ledger_parse(NULL, 0, NULL, 0) == wrong_length);
+}
+
 int main(void)
 {
     test_repair();
@@ -1265,6 +1644,7 @@ int main(void)
     test_safety_follow();
     test_captures();
     test_safety_captures();
+    test_ledgers();
     test_header_read();
     test_header_write();
     test_laying();
@@ -1275,6 +1655,7 @@ int main(void)
     for (int i = 0; i < NUMBERS; i++) {
         test_null(EDITIONS[i]);
         test_null_marked(EDITIONS[i]);
+        test_null_ledger(EDITIONS[i]);
     }
     if (failures == 0) {
         printf("c: all answers are as expected\n");

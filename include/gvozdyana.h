@@ -12,8 +12,9 @@
  *
  * A refusal tells its number alone, but for gvz_follow, and leaves every buffer as it was: look at GVZ_REFUSAL first,
  * since what stands above it means something only where that is 0. Refusal 1 is also given for a record, word,
- * place or field buffer of another length than the one named here, before anything else is looked at. Frames and
- * headers of another length get their 1 where document 01 tests it, and so do marks, together with their frame.
+ * place, field or ledger buffer of another length than the one named here, before anything else is looked at. Frames
+ * and headers of another length get their 1 where document 01 tests it, and so do marks, together with their frame. The
+ * buffer of a ledger's report has no length of its own, and another one than the report's is 27.
  *
  * Where a frame or a record is judged, the first parameter names the edition, an enum gvz_edition.
  */
@@ -34,7 +35,7 @@ extern "C" {
 
 /* ---- Refusals */
 
-/* Document 01's refusals, by their numbers. */
+/* Document 01's refusals, 1 to 15, and document 02's, 18, 19 and 27, by their numbers. No other number is given. */
 enum gvz_refusal {
     GVZ_REFUSAL_NONE = 0,
     /* a frame or its marks are not 26 bytes, a header is not 188, a frame number is past the capture, or a buffer has
@@ -68,7 +69,13 @@ enum gvz_refusal {
     /* the multiplex form is not 0x1 */
     GVZ_REFUSAL_MULTIPLEX_FORM = 14,
     /* a header bit fixed at 1 is 0, or a reception state is 11 */
-    GVZ_REFUSAL_HEADER_BITS = 15
+    GVZ_REFUSAL_HEADER_BITS = 15,
+    /* no list of at most 4,000,000 frames gives the ledger, or the bytes are not the report of a ledger that one gives */
+    GVZ_REFUSAL_IMPOSSIBLE_LEDGER = 18,
+    /* the ledger has 4,000,000 frames */
+    GVZ_REFUSAL_LEDGER_FULL = 19,
+    /* a buffer for a report has another size than the report */
+    GVZ_REFUSAL_BUFFER_SIZE = 27
 };
 
 /* The refusal of a status, an enum gvz_refusal: 0 where nothing was refused. */
@@ -316,6 +323,57 @@ uint32_t gvz_capture_numbers(uint32_t edition, const uint8_t *main_capture, size
 
 #define GVZ_MAIN_REFUSAL(numbers) ((numbers) & 255u)
 #define GVZ_SPARE_REFUSAL(numbers) ((numbers) >> 8)
+
+/* ---- The day's ledger */
+
+/* The values of a ledger, the most frames that it counts, and the bytes of the longest report. */
+#define GVZ_LEDGER_VALUES 12
+#define GVZ_LEDGER_MOST_FRAMES 4000000
+#define GVZ_LEDGER_REPORT_MOST 203
+
+/* Where the numbers of a list of frames stand in a ledger of GVZ_LEDGER_VALUES; how many were refused with a number from
+ * 1 to 9 stands at GVZ_LEDGER_REFUSED(number). Zeros are a fresh ledger, and a ledger is emptied by setting it to zeros.
+ * The caller keeps it between calls. */
+enum gvz_ledger_index {
+    /* all frames: those refused and those accepted together */
+    GVZ_LEDGER_SEEN = 0,
+    GVZ_LEDGER_ACCEPTED = 10,
+    /* the repaired places of all accepted frames together */
+    GVZ_LEDGER_REPAIRED = 11
+};
+
+#define GVZ_LEDGER_REFUSED(number) (number)
+
+/* A ledger is possible where some list of at most GVZ_LEDGER_MOST_FRAMES frames gives it: the frames seen are the sum of
+ * those refused and those accepted, and at most so many, and the repaired places are at most eight times those accepted.
+ *
+ * Its report is a line for each number, in their order: a name, a space, the number in decimal digits without a 0 before
+ * others, and the byte 0x0A, after the last line too. The names are `seen`, `refused 1` to `refused 9`, `accepted` and
+ * `repaired`. It has 137 to GVZ_LEDGER_REPORT_MOST bytes. */
+
+/* The bytes of the report of a status of gvz_ledger_length whose GVZ_REFUSAL is 0. */
+#define GVZ_LEDGER_LENGTH(status) ((status) >> 8)
+
+/* Counts one more frame, of any bytes, in a ledger of GVZ_LEDGER_VALUES, in place: as one refused with the number that
+ * gvz_frame_read refuses it with by the edition named, or as one accepted, with its repaired places. Of a fresh ledger
+ * and a list of at most GVZ_LEDGER_MOST_FRAMES frames, counted one by one, each number is what the list itself says.
+ * What a frame is refused for is counted, and not returned. Returns a status: refuses 1 for a ledger of another length,
+ * then 18 for one that is not possible, then 19 for one that has GVZ_LEDGER_MOST_FRAMES frames already; tells nothing. */
+uint32_t gvz_ledger_count(uint32_t edition, uint64_t *ledger, size_t ledger_len, const uint8_t *frame, size_t frame_len);
+
+/* How long the report of a ledger of GVZ_LEDGER_VALUES is. Returns a status: refuses 1, then 18 for a ledger that is not
+ * possible; tells GVZ_LEDGER_LENGTH. */
+uint32_t gvz_ledger_length(const uint64_t *ledger, size_t ledger_len);
+
+/* Prints the report of a ledger of GVZ_LEDGER_VALUES into a text of just its length, without a zero byte behind it.
+ * Returns a status: refuses 1 for a ledger of another length, then 18 for one that is not possible, then 27 for a text of
+ * another length; tells nothing. */
+uint32_t gvz_ledger_print(const uint64_t *ledger, size_t ledger_len, uint8_t *text, size_t text_len);
+
+/* Reads a report into a ledger of GVZ_LEDGER_VALUES, in which any numbers may have stood. Returns a status: refuses 1 for
+ * a ledger of another length, then 18 exactly where the text is not, byte for byte, the report of some possible ledger;
+ * tells nothing. */
+uint32_t gvz_ledger_parse(const uint8_t *text, size_t text_len, uint64_t *ledger, size_t ledger_len);
 
 /* ---- The cable header */
 
