@@ -89,6 +89,26 @@ mod archive {
             spare_len: usize,
             n: u64,
         ) -> u32;
+        pub fn gvz_ledger_count(
+            edition: u32,
+            ledger: *mut u64,
+            ledger_len: usize,
+            frame: *const u8,
+            frame_len: usize,
+        ) -> u32;
+        pub fn gvz_ledger_length(ledger: *const u64, ledger_len: usize) -> u32;
+        pub fn gvz_ledger_print(
+            ledger: *const u64,
+            ledger_len: usize,
+            text: *mut u8,
+            text_len: usize,
+        ) -> u32;
+        pub fn gvz_ledger_parse(
+            text: *const u8,
+            text_len: usize,
+            ledger: *mut u64,
+            ledger_len: usize,
+        ) -> u32;
         pub fn gvz_header_read(
             header: *const u8,
             header_len: usize,
@@ -268,6 +288,38 @@ pub fn capture_numbers(edition: u32, main: &[u8], spare: &[u8], n: u64) -> u32 {
             spare.len(),
             n,
         )
+    }
+}
+
+/// The number; `ledger` has 12 values and is changed in place.
+pub fn ledger_count(edition: u32, ledger: &mut [u64], frame: &[u8]) -> u32 {
+    unsafe {
+        archive::gvz_ledger_count(
+            edition,
+            ledger.as_mut_ptr(),
+            ledger.len(),
+            frame.as_ptr(),
+            frame.len(),
+        )
+    }
+}
+
+/// The number and 256 times the bytes of the report; `ledger` has 12 values.
+pub fn ledger_length(ledger: &[u64]) -> u32 {
+    unsafe { archive::gvz_ledger_length(ledger.as_ptr(), ledger.len()) }
+}
+
+/// The number; `ledger` has 12 values and `text` as many bytes as the report, else the number is 27.
+pub fn ledger_print(ledger: &[u64], text: &mut [u8]) -> u32 {
+    unsafe {
+        archive::gvz_ledger_print(ledger.as_ptr(), ledger.len(), text.as_mut_ptr(), text.len())
+    }
+}
+
+/// The number; `ledger` has 12 values.
+pub fn ledger_parse(text: &[u8], ledger: &mut [u64]) -> u32 {
+    unsafe {
+        archive::gvz_ledger_parse(text.as_ptr(), text.len(), ledger.as_mut_ptr(), ledger.len())
     }
 }
 

@@ -18,6 +18,7 @@ mod edition;
 pub mod follower;
 pub mod frame;
 pub mod header;
+pub mod ledger;
 pub mod place;
 mod refusal;
 mod repair;

@@ -12,7 +12,7 @@ macro_rules! refusals {
         }
 
         impl Refusal {
-            /// The refusal with this number, 1 to 15.
+            /// The refusal with this number: 1 to 15, 18, 19 or 27.
             pub fn from_number(number: u8) -> Option<Refusal> {
                 match number {
                     $($number => Some(Refusal::$name),)*
@@ -45,10 +45,13 @@ refusals! {
     HeaderCrc = 13, "the header's CRC does not come out zero";
     MultiplexForm = 14, "the multiplex form is not 0x1";
     HeaderBits = 15, "a header bit fixed at 1 is 0, or a reception state is 11";
+    ImpossibleLedger = 18, "no list of at most 4,000,000 frames gives the ledger, or the bytes are not the report of a ledger that one gives";
+    LedgerFull = 19, "the ledger has 4,000,000 frames";
+    BufferSize = 27, "a buffer for a report has another size than the report";
 }
 
 impl Refusal {
-    /// Document 01's number.
+    /// Document 01's number, 1 to 15, or document 02's.
     ///
     /// ```
     /// use gvozdyana::Refusal;
@@ -65,9 +68,9 @@ impl Refusal {
     pub(crate) fn from_status(status: u32) -> Option<Refusal> {
         match (status & 255) as u8 {
             0 => None,
-            number => Some(
-                Refusal::from_number(number).expect("the archive knows only the numbers 1 to 15"),
-            ),
+            number => {
+                Some(Refusal::from_number(number).expect("the archive gives no other number"))
+            }
         }
     }
 }

@@ -1,7 +1,8 @@
-//! Every function with empty slices, one after another and all at once: refusal 1, or what document 01 says, and nothing written elsewhere; whatever
-//! the edition and the tuner.
+//! Every function with empty slices, one after another and all at once: refusal 1, or what documents 01 and 02 say, and nothing written elsewhere;
+//! whatever the edition and the tuner.
 use gvozdyana::frame::{write, Record, FRAME_VALUES};
 use gvozdyana::header::{self, Header};
+use gvozdyana::ledger::{Ledger, LEDGER_VALUES};
 use gvozdyana::{calls, Edition};
 
 /// Refusal 1.
@@ -102,6 +103,34 @@ fn of_captures() {
         assert_eq!(numbers(&[], &frame), WRONG_LENGTH);
         assert_eq!(numbers(&frame, &[]), 256 * WRONG_LENGTH);
     }
+}
+
+/// No frame is counted as one refused with 1; no buffer is of another size than the report, and no text is a report.
+#[test]
+fn of_ledgers() {
+    let frame = write(Edition::First, &Record::no_information(5)).expect("legal");
+    let fresh = Ledger::new().values();
+    for edition in EDITIONS {
+        let mut left = fresh;
+        assert_eq!(calls::ledger_count(edition, &mut left, &[]), 0);
+        assert_eq!(left, [1, 1, 0, 0, 0, 0, 0, 0, 0, 0, 0, 0]);
+        let none = calls::ledger_count(edition, &mut [], &frame);
+        assert_eq!(none, WRONG_LENGTH);
+        assert_eq!(calls::ledger_count(edition, &mut [], &[]), WRONG_LENGTH);
+    }
+    assert_eq!(calls::ledger_length(&[]), WRONG_LENGTH);
+    let report = Ledger::new().report().expect("possible").into_bytes();
+    let mut left = vec![7; report.len()];
+    assert_eq!(calls::ledger_print(&[], &mut left), WRONG_LENGTH);
+    assert_eq!(left, vec![7; report.len()]);
+    assert_eq!(calls::ledger_print(&fresh, &mut []), 27);
+    assert_eq!(calls::ledger_print(&[7; LEDGER_VALUES], &mut []), 18);
+    assert_eq!(calls::ledger_print(&[], &mut []), WRONG_LENGTH);
+    let mut left = [7; LEDGER_VALUES];
+    assert_eq!(calls::ledger_parse(&[], &mut left), 18);
+    assert_eq!(left, [7; LEDGER_VALUES]);
+    assert_eq!(calls::ledger_parse(&report, &mut []), WRONG_LENGTH);
+    assert_eq!(calls::ledger_parse(&[], &mut []), WRONG_LENGTH);
 }
 
 #[test]

@@ -6,6 +6,7 @@ use gvozdyana::frame::{
 };
 use gvozdyana::frame::{AREAS, FRAME_VALUES};
 use gvozdyana::header::{Header, HEADER_VALUES};
+use gvozdyana::ledger::{Ledger, LEDGER_VALUES, MOST_FRAMES};
 use gvozdyana::place::{fields, report, Fields, Place};
 use gvozdyana::{calls, Edition, Refusal, Tuner, FRAME_BYTES, HEADER_BYTES};
 use std::fmt::Debug;
@@ -105,6 +106,9 @@ fn the_sizes() {
         ("GVZ_AREAS", AREAS as usize),
         ("GVZ_CABLE_BYTES", HEADER_BYTES),
         ("GVZ_CABLE_VALUES", HEADER_VALUES),
+        ("GVZ_LEDGER_VALUES", LEDGER_VALUES),
+        ("GVZ_LEDGER_MOST_FRAMES", MOST_FRAMES as usize),
+        ("GVZ_LEDGER_REPORT_MOST", 203),
         ("GVZ_PLACE_VALUES", 3),
         ("GVZ_DESK_VALUES", 5),
     ] {
@@ -124,20 +128,26 @@ fn the_functions() {
     };
     let called = names(include_str!("../src/calls.rs"), "pub fn gvz_");
     assert_eq!(names(HEADER_FILE, "uint32_t gvz_"), called);
-    assert_eq!(called.len(), 19);
+    assert_eq!(called.len(), 23);
+}
+
+/// Document 01's refusals, and of document 02's those that there are.
+fn numbers_of_refusals() -> Vec<u8> {
+    (1..=15).chain([18, 19, 27]).collect()
 }
 
 #[test]
 fn the_refusals() {
+    let numbers = numbers_of_refusals();
     for number in 0..=255 {
         assert_eq!(
             Refusal::from_number(number).map(Refusal::number),
-            (1..=15).contains(&number).then_some(number)
+            numbers.contains(&number).then_some(number)
         );
     }
     let mut expected = vec![("NONE".to_string(), 0)];
-    expected.extend((1..=15).map(|number| {
-        let refusal = Refusal::from_number(number).expect("1 to 15");
+    expected.extend(numbers.into_iter().map(|number| {
+        let refusal = Refusal::from_number(number).expect("one of them");
         (c_name(&format!("{refusal:?}")), number.into())
     }));
     assert_eq!(declared("gvz_refusal", "GVZ_REFUSAL_"), expected);
@@ -357,4 +367,27 @@ fn the_places() {
     assert_eq!(at("LATITUDE"), PLACE.latitude);
     assert_eq!(at("LONGITUDE"), PLACE.longitude);
     assert_eq!(at("DEPTH"), PLACE.depth);
+}
+
+/// A ledger's numbers stand where the header file says, and the length of its report is where the macro takes it from.
+#[test]
+fn the_ledger() {
+    let ledger = Ledger::from_values(std::array::from_fn(|i| 100 + i as u64));
+    assert_eq!(
+        declared("gvz_ledger_index", "GVZ_LEDGER_"),
+        [
+            ("SEEN", ledger.seen()),
+            ("ACCEPTED", ledger.accepted()),
+            ("REPAIRED", ledger.repaired())
+        ]
+        .map(|(name, value)| (name.to_string(), value - 100))
+    );
+    assert_eq!(defined("GVZ_LEDGER_REFUSED(number)"), "(number)");
+    for number in 1..=9 {
+        assert_eq!(ledger.refused(number), 100 + u64::from(number));
+    }
+    assert_eq!(defined("GVZ_LEDGER_LENGTH(status)"), "((status) >> 8)");
+    let report = Ledger::new().report().expect("possible");
+    let status = calls::ledger_length(&Ledger::new().values());
+    assert_eq!(status, 256 * report.len() as u32);
 }
