@@ -1,11 +1,9 @@
 //! The listing programs, one for each edition and one for marked frames, fed through a pipe, against the plain version.
+mod common;
+use common::programs::{clean, written};
 use reference::frame::{Edition, EDITIONS};
 use reference::listing::{line, listing, marked_line, marked_listing, MARKED_BYTES, MOST};
 use reference::FRAME_BYTES;
-use std::io::Write;
-use std::path::PathBuf;
-use std::process::{Command, Stdio};
-use std::thread;
 
 /// The listing program of an edition.
 fn of_edition(edition: Edition) -> &'static str {
@@ -17,47 +15,9 @@ fn of_edition(edition: Edition) -> &'static str {
 
 const MARKED: &str = "list_marked_frames";
 
-fn program(name: &str) -> PathBuf {
-    let folder = PathBuf::from(env!("CARGO_MANIFEST_DIR")).join("../../target/bin");
-    let path = folder.join(name);
-    let built = format!("{} is built by rt check {name}", path.display());
-    assert!(path.exists(), "{built}");
-    path
-}
-
 /// What the edition's program writes when these pieces come through a pipe, one write each.
 fn listed(edition: Edition, pieces: Vec<Vec<u8>>) -> Vec<u8> {
     written(of_edition(edition), pieces)
-}
-
-/// What a program writes then.
-fn written(name: &str, pieces: Vec<Vec<u8>>) -> Vec<u8> {
-    let mut child = Command::new(program(name))
-        .stdin(Stdio::piped())
-        .stdout(Stdio::piped())
-        .spawn()
-        .expect("the listing program");
-    let mut input = child.stdin.take().expect("its input");
-    let writer = thread::spawn(move || {
-        for piece in pieces {
-            // The program stops reading after frame 999,999, so that a write may find nobody.
-            if input.write_all(&piece).is_err() {
-                break;
-            }
-        }
-    });
-    let output = child.wait_with_output().expect("its output");
-    writer.join().expect("all written");
-    assert!(output.status.success());
-    output.stdout
-}
-
-/// A clean frame: a warning for all areas.
-fn clean() -> Vec<u8> {
-    let mut frame = vec![0; FRAME_BYTES];
-    frame[0] = 0x1A;
-    frame[1] = 0xF7;
-    frame
 }
 
 #[test]
@@ -119,7 +79,7 @@ fn clean_marked() -> Vec<u8> {
 fn marked_pieces_of_a_pipe_are_put_together() {
     let input = [clean_marked(), clean()].concat();
     for size in [1, 5, 26, 51, 52, 78] {
-        let pieces = input.chunks(size).map(|piece| piece.to_vec()).collect();
+        let pieces: Vec<Vec<u8>> = input.chunks(size).map(|piece| piece.to_vec()).collect();
         let lines = written(MARKED, pieces);
         assert_eq!(lines, b"1 0 0\n2 1 -\nend 2\n", "pieces of {size}");
     }

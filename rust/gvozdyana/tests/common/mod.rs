@@ -1,5 +1,7 @@
 //! Seeded cases. GVZ_SEED starts from another seed; GVZ_FRAMES and GVZ_HEADERS ask for other numbers of cases. A mismatch tells its case.
 #![allow(dead_code)]
+pub mod programs;
+
 use gvozdyana::{Edition, Refusal, Tuner};
 use reference::frame as plain;
 use samples::Random;
