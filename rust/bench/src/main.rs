@@ -1,8 +1,11 @@
 //! Times the proved version and the plain one on the same inputs, in one run: nanoseconds per call, and how many times as fast the proved
-//! one is. The functions that take doubtful marks are also timed beside those without marks. Frames are judged by the first edition. The only argument
-//! is the number of frames of each sort; of headers there are a tenth. A second argument, `marked`, asks for the rows with marks alone.
+//! one is. The functions that take doubtful marks are also timed beside those without marks, and the program that prints a ledger beside the listing
+//! program. Frames are judged by the first edition. The first argument is the number of frames of each sort; of headers there are a tenth, and
+//! programs have ten times as many frames. A second argument, `marked` or `ledger`, asks for the rows with marks or those of the ledger alone.
+mod ledger;
 mod listing;
 mod marked;
+mod programs;
 
 use gvozdyana::frame::Record;
 use gvozdyana::header::Header;
@@ -236,14 +239,7 @@ fn header_rows(count: usize) {
     );
 }
 
-fn main() {
-    let mut arguments = std::env::args().skip(1);
-    let count: usize = arguments.next().map_or(100_000, |n| {
-        n.parse().expect("the number of frames of each sort")
-    });
-    if arguments.next().is_some_and(|which| which == "marked") {
-        return marked::rows(count);
-    }
+fn all_rows(count: usize) {
     println!(
         "{:<28} {:>12} {:>12} {:>8}",
         "ns per call", "proved", "plain", "ratio"
@@ -254,4 +250,17 @@ fn main() {
     header_rows(count / 10);
     listing::rows(10 * count, |random| legal_frame(0, random));
     marked::rows(count);
+    ledger::rows(count);
+}
+
+fn main() {
+    let mut arguments = std::env::args().skip(1);
+    let count: usize = arguments.next().map_or(100_000, |n| {
+        n.parse().expect("the number of frames of each sort")
+    });
+    match arguments.next().as_deref() {
+        Some("marked") => marked::rows(count),
+        Some("ledger") => ledger::rows(count),
+        _ => all_rows(count),
+    }
 }
