@@ -1,19 +1,26 @@
 -- The promises hold. Assumes nothing.
-use mathlib.Core.Path.{_≡_, ap, _∙_, sym}
-use mathlib.Core.Bool.{true}
-use mathlib.Core.List.{List, [], _++_, append-nil}
-use Prim.Native.Nat.{ℕ, _+_, _-_, _*_, min}
+use mathlib.Core.Path.{_≡_, refl, sym, ap, ap₂, _∙_}
+use mathlib.Core.Bool.{Bool, true, cond}
+use mathlib.Core.List.{List, [], _∷_, _++_, append-nil}
+use Prim.Native.Nat.{ℕ, _+_, _*_, _≤_, _<_, min}
 use native.Mathlib.Omega.{arith}
-use lib.ListN.{length, length-append}
+use lib.ListN.{length, take, drop, length-append}
+use lib.Seq.{take-all, take-at}
+use Rattle.frame.specs.Read.{judgeOf}
 use Rattle.frame.specs.declared.Edition.{Edition}
 use Rattle.listing.specs.Lines.{pieceCount}
 use Rattle.listing.specs.declared.Pieces.the-variants.{Frames}
-use Rattle.listing.proofs.Counts.{count-least, count-whole}
+use Rattle.listing.proofs.Counts.{count-none, count-least, count-whole, count-two}
 use Rattle.ledger.specs.Counting.{Frame, ledgerOf, mostFrames, possible}
+use Rattle.ledger.specs.Report.{reportOf, lengthOf}
+use Rattle.ledger.specs.Worked.{twoPieces, noFrames}
+use Rattle.ledger.specs.declared.Ledger.{Ledger}
 use Rattle.ledger.proofs.Lists.{list-possible}
-use Rattle.ledger_input.specs.Input.{framesIn, inputLedger}
+use Rattle.ledger.proofs.Reports.{length-possible}
+use Rattle.ledger.proofs.Promises.{day-ledger, ledger-reports}
+use Rattle.ledger_input.specs.Input.{framesIn, inputLedger, inputReport, turnsAtMost, withReport, programText}
 use Rattle.ledger_input.specs.Promises.{LedgerTurns}
-use Rattle.ledger_input.proofs.Frames.{frames-none, frames-length, frames-append}
+use Rattle.ledger_input.proofs.Frames.{frames-none, frames-next, frames-length, frames-append}
 use Rattle.ledger_input.proofs.Turns.{whole}
 
 module _ (ed : Edition) where
@@ -36,5 +43,37 @@ module _ (ed : Edition) where
       let k = min (pieceCount Frames (length s)) mostFrames in
       list-possible (framesIn ed k s) (omega (arith, frames-length ed k s))
 
+  -- the report is at the start of the buffer, and nothing else is written
+  written : (k : ℕ) (s out : List ℕ) → turnsAtMost ≤ k → programText ed k s out ≡ inputReport ed s
+  unfolding programText withReport
+  written k s out h =
+      let l = inputLedger ed s in
+      let p = reported s in
+      ap (λ (m : Ledger). take (lengthOf m) (withReport m out)) (whole ed k s h)
+      ∙ ap (λ (n : ℕ). take n (withReport l out)) (length-possible l p .1)
+      ∙ ap (λ (t : Bool). take (length (reportOf l)) (cond t (reportOf l ++ drop (length (reportOf l)) out) out)) p
+      ∙ take-at (reportOf l) (drop (length (reportOf l)) out) (length (reportOf l)) refl
+
+  example : (f x : List ℕ) → length f ≡ 26 → judgeOf ed f ≡ record { number = 0; repaired = 0 } → 0 < length x → length x < 26 → inputReport ed (f ++ x) ≡ twoPieces
+  unfolding inputLedger
+  example f x h accepted some short =
+      let two : pieceCount Frames (length (f ++ x)) ≡ 2 = count-two Frames (length (f ++ x)) (length x) (length-append f x ∙ omega arith) some (omega arith) in
+      let k : min (pieceCount Frames (length (f ++ x))) mostFrames ≡ 1 + 1 = omega arith in
+      let own : framesIn ed 1 f ≡ (ed, f) ∷ [] =
+      frames-next ed 0 f ∙ ap₂ (λ (a : List ℕ) (fs : List Frame). (ed, a) ∷ fs) (take-all 26 f (omega arith)) (frames-none ed (drop 26 f)) in
+      let last : framesIn ed 1 x ≡ (ed, x) ∷ [] =
+      frames-next ed 0 x ∙ ap₂ (λ (a : List ℕ) (fs : List Frame). (ed, a) ∷ fs) (take-all 26 x (omega arith)) (frames-none ed (drop 26 x)) in
+      ap (λ (fs : List Frame). reportOf (ledgerOf fs))
+      (ap (λ (n : ℕ). framesIn ed n (f ++ x)) k ∙ frames-append ed 1 1 f x h ∙ ap₂ _++_ own last)
+      ∙ ledger-reports .two-pieces ed f x accepted (λ e. omega arith)
+
+  empty : inputReport ed [] ≡ noFrames
+  unfolding inputLedger
+  empty =
+      let none = count-none Frames in
+      let k : min (pieceCount Frames 0) mostFrames ≡ 0 = omega arith in
+      ap (λ (n : ℕ). reportOf (ledgerOf (framesIn ed n []))) k ∙ ap (λ (fs : List Frame). reportOf (ledgerOf fs)) (frames-none ed [])
+      ∙ ap reportOf (day-ledger .new-list) ∙ ledger-reports .no-frames
+
   pub ledger-turns : LedgerTurns ed
-  ledger-turns = record { whole = whole ed; stops = stops; reported = reported }
+  ledger-turns = record { whole = written; stops = stops; example = example; empty = empty }

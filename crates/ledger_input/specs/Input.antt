@@ -1,15 +1,15 @@
 -- The ledger of an input (document 02, l): its frames are those of the listing, pieces of 26 bytes of which the last may be short, and it is read in turns.
 -- Assumes nothing.
 use mathlib.Core.Bool.{cond}
-use mathlib.Core.List.{List, [], _∷_}
+use mathlib.Core.List.{List, [], _∷_, _++_}
 use Prim.Native.Nat.{ℕ, zero, suc, _-_, _*_, min}
 use lib.Dec.{eqb, ltb}
 use lib.ListN.{length, take, drop}
 use Rattle.frame.specs.declared.Edition.{Edition}
 use Rattle.listing.specs.Lines.{pieceSize, pieceCount}
 use Rattle.listing.specs.declared.Pieces.the-variants.{Frames}
-use Rattle.ledger.specs.Counting.{Frame, ledgerOf, mostFrames, fresh, countedIn}
-use Rattle.ledger.specs.Report.{reportOf}
+use Rattle.ledger.specs.Counting.{Frame, ledgerOf, mostFrames, possible, fresh, countedIn}
+use Rattle.ledger.specs.Report.{reportOf, lengthOf}
 use Rattle.ledger.specs.declared.Ledger.{Ledger}
 use Rattle.ledger_input.specs.declared.LedgerTurn.{LedgerTurn}
 
@@ -26,7 +26,7 @@ allFrames ed s = framesIn ed (pieceCount Frames (length s)) s
 unfoldable pub inputLedger : Edition → List ℕ → Ledger
 inputLedger ed s = ledgerOf (framesIn ed (min (pieceCount Frames (length s)) mostFrames) s)
 
--- what the program writes
+-- its report
 abbrev pub inputReport : Edition → List ℕ → List ℕ
 inputReport ed s = reportOf (inputLedger ed s)
 
@@ -58,3 +58,13 @@ unfoldable pub programLedger : Edition → (k : ℕ) → LedgerTurn → List ℕ
 programLedger ed zero t s = t .ledger
 programLedger ed (suc k) t s =
     cond (eqb (t .wanted) 0) (t .ledger) (programLedger ed k (turnAfter ed t (take (t .wanted) s)) (drop (t .wanted) s))
+
+-- ---- what is written
+
+-- a buffer with the report of a possible ledger at its start
+unfoldable pub withReport : Ledger → List ℕ → List ℕ
+withReport l out = cond (possible l) (reportOf l ++ drop (length (reportOf l)) out) out
+
+-- as many bytes as the report has, from the buffer that it was put into
+unfoldable pub programText : Edition → (k : ℕ) → (s out : List ℕ) → List ℕ
+programText ed k s out = take (lengthOf (programLedger ed k start s)) (withReport (programLedger ed k start s) out)

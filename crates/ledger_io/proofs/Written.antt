@@ -11,9 +11,9 @@ use Rattle.ledger.specs.Counting.{possible}
 use Rattle.ledger.specs.Report.{reportOf, lengthOf, printNumber, printOf}
 use Rattle.ledger.specs.declared.Ledger.{Ledger}
 use Rattle.ledger.proofs.Reports.{length-impossible, length-possible, report-length, print-impossible, print-accepted, printed, unchanged}
-use Rattle.ledger_input.specs.Input.{wantedAt, ledgerAfter, turnAfter}
+use Rattle.ledger_input.specs.Input.{wantedAt, ledgerAfter, turnAfter, withReport}
 use Rattle.ledger_input.specs.declared.LedgerTurn.{LedgerTurn}
-use Rattle.ledger_io.specs.Reading.{TurnMade, withReport}
+use Rattle.ledger_io.specs.Reading.{TurnMade}
 
 module _ (l : Ledger) (nine : length (l .refused) ≡ 9) where
   pub report-put : (text v : List ℕ) (bytes : ℕ) → 203 ≤ length text → bytes ≡ lengthOf l → v ≡ printOf l (take bytes text) → v ++ drop bytes text ≡ withReport l text

@@ -1,35 +1,8 @@
--- `ledger_numbers::numbers_of` meets its contract. Assumes nothing.
+-- `ledger_numbers::numbers_of` meets its contract: the reads are inside. Assumes nothing.
 use borrow.Author.Needs.{needs}
 use Rattle.ledger_numbers.proofs.Rows.{numbers-row}
 use Rattle.ledger_numbers.proofs.numbers_of.Statement.{statement}
 use Rattle.ledger_numbers.proofs.numbers_of.Tie as tie
-
-array-read-t5 : tie.Need-array-read-t5
-array-read-t5 c = search needs
-
-array-read-t8 : tie.Need-array-read-t8
-array-read-t8 c = search needs
-
-array-read-t11 : tie.Need-array-read-t11
-array-read-t11 c = search needs
-
-array-read-t14 : tie.Need-array-read-t14
-array-read-t14 c = search needs
-
-array-read-t17 : tie.Need-array-read-t17
-array-read-t17 c = search needs
-
-array-read-t20 : tie.Need-array-read-t20
-array-read-t20 c = search needs
-
-array-read-t23 : tie.Need-array-read-t23
-array-read-t23 c = search needs
-
-array-read-t26 : tie.Need-array-read-t26
-array-read-t26 c = search needs
-
-array-read-t29 : tie.Need-array-read-t29
-array-read-t29 c = search needs
 
 returns : tie.Need-returns
 returns c = numbers-row (c .before .args .ledger) (search needs)
@@ -38,13 +11,13 @@ pub numbers-of-spec : {M : Type 1} → statement M
 numbers-of-spec =
     tie.close
     (tie.spec
-    array-read-t5
-    array-read-t8
-    array-read-t11
-    array-read-t14
-    array-read-t17
-    array-read-t20
-    array-read-t23
-    array-read-t26
-    array-read-t29
+    (λ c. search needs)
+    (λ c. search needs)
+    (λ c. search needs)
+    (λ c. search needs)
+    (λ c. search needs)
+    (λ c. search needs)
+    (λ c. search needs)
+    (λ c. search needs)
+    (λ c. search needs)
     returns)
