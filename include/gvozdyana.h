@@ -29,9 +29,9 @@ extern "C" {
 #endif
 
 #define GVZ_VERSION_MAJOR 0
-#define GVZ_VERSION_MINOR 6
+#define GVZ_VERSION_MINOR 7
 #define GVZ_VERSION_PATCH 0
-#define GVZ_VERSION "0.6.0"
+#define GVZ_VERSION "0.7.0"
 
 /* ---- Refusals */
 
