@@ -9,7 +9,7 @@ ghost use Rattle.decimals.specs.Decimal.{leading, decimal};
 ghost use Rattle.decimals.specs.Put.{Put};
 ghost use Rattle.decimals.specs.Reading.{startsWith, isDigit, digitsFrom, decimalAt};
 
-// What a text begins with: a number, and how many digits it has; or no number.
+// What a text begins with: a number, and how many bytes of the text it takes; or no number.
 pub enum Found {
     Number(u64, usize),
     Nothing,

@@ -37,7 +37,7 @@ use Rattle.frame.specs.declared.Edition.the-variants.{First, AreaSafety}
 use Rattle.frame.proofs.Readings.{repaired-refusal}
 use Rattle.frame.proofs.Marks.{marked-frames}
 use Rattle.frame_verdicts.specs.Promises.{JudgedAs, verdictRefused}
-use Rattle.frame_verdicts.proofs.Tables.{nineHits, clean}
+use Rattle.frame_verdicts.proofs.Tables.{nineHits, unhit}
 
 -- ---- bytes
 
@@ -103,10 +103,10 @@ rightRows ed n [] = true
 rightRows ed n (f ∷ fs) = rightRow ed n f && rightRows ed (suc n) fs
 
 -- the one computed test
-right-clean : (ed : Edition) → rightRows ed 5 clean ≡ true
-unfolding rightRows rightRow clean firstRefusal isCodeWord allZero remainder add scale syncOf differingFrom protected wordBytes bytes bits bitsOf odd value digit classOf row layout scatter generatorLow poly powers member crc10 crc fixedHold unpack widths recordOf recordFrom free freeWidths
-right-clean First = refl
-right-clean AreaSafety = refl
+right-unhit : (ed : Edition) → rightRows ed 5 unhit ≡ true
+unfolding rightRows rightRow unhit firstRefusal isCodeWord allZero remainder add scale syncOf differingFrom protected wordBytes bytes bits bitsOf odd value digit classOf row layout scatter generatorLow poly powers member crc10 crc fixedHold unpack widths recordOf recordFrom free freeWidths
+right-unhit First = refl
+right-unhit AreaSafety = refl
 
 row-judged : (ed : Edition) (n : ℕ) (f : List ℕ) → 0 < n → rightRow ed n f ≡ true → JudgedAs ed (verdictRefused n)
 unfolding rightRow
@@ -137,8 +137,8 @@ rows-judged ed n (f ∷ fs) h e =
     (row-judged ed n f h (a .0), rows-judged ed (suc n) fs (omega arith) (a .1))
 
 nine : (ed : Edition) → AllFrom ed 1 9
-unfolding AllFrom clean
-nine ed = (first ed, (second ed, (third ed, (fourth ed, rows-judged ed 5 clean (omega arith) (right-clean ed)))))
+unfolding AllFrom unhit
+nine ed = (first ed, (second ed, (third ed, (fourth ed, rows-judged ed 5 unhit (omega arith) (right-unhit ed)))))
 
 one-of : (ed : Edition) (n k m : ℕ) → AllFrom ed n k → n ≤ m → m < n + k → JudgedAs ed (verdictRefused m)
 unfolding AllFrom

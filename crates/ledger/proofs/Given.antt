@@ -13,7 +13,7 @@ use Rattle.frame.specs.declared.Edition.{Edition}
 use Rattle.frame.specs.declared.Verdict.{Verdict}
 use Rattle.frame_verdicts.specs.Promises.{JudgedAs, verdictRefused, verdictAccepted}
 use Rattle.frame_verdicts.proofs.Promises.{every-verdict}
-use Rattle.ledger.specs.Counting.{Frame, verdictOn, framesWith, placesCounted, placesRepaired, refusals, ledgerOf, mostFrames, possible, Each, ListOf}
+use Rattle.ledger.specs.Counting.{Frame, verdictOn, framesWith, placesCounted, placesRepaired, refusals, ledgerOf, mostFrames, possible, Each, Possible}
 use Rattle.ledger.specs.declared.Ledger.{Ledger}
 use Rattle.ledger.proofs.Possible.{Counts, possible-counts}
 use Rattle.ledger.proofs.Rows.{row-all}
@@ -142,7 +142,7 @@ module _ (ed : Edition) where
   unfolding at digit
   accepted-at rs a = omega arith
 
-  pub given : (l : Ledger) → length (l .refused) ≡ 9 → possible l ≡ true → (g : ListOf l) × Each (λ f. f .0 ≡ ed) (g .frames)
+  pub given : (l : Ledger) → length (l .refused) ≡ 9 → possible l ≡ true → (g : Possible l) × Each (λ f. f .0 ≡ ed) (g .frames)
   unfolding upFrom ledgerOf
   given l nine ok =
       let c = possible-counts l ok in

@@ -12,10 +12,8 @@ use Rattle.bits.specs.Layout.{sum}
 use Rattle.bits.proofs.Layouts.{sum-append}
 use Rattle.bits.proofs.Computed.{below, below-at}
 use Rattle.dsc.specs.Code.{count}
-use Rattle.frame.specs.Read.{judgeBy}
-use Rattle.frame.proofs.Verdicts.{refusal-small, places-small}
-use Rattle.dsc.specs.Marks.{unmarked}
 use Rattle.frame.specs.declared.Verdict.{Verdict}
+use Rattle.frame_verdicts.proofs.Promises.{every-verdict}
 use Rattle.ledger.specs.Counting.{Frame, verdictOn, framesWith, placesCounted, placesRepaired, refusals, ledgerOf, mostFrames, possible, fresh, oneMoreAt, withVerdict}
 use Rattle.ledger.specs.declared.Ledger.{Ledger}
 use Rattle.ledger.proofs.Possible.{Counts, counts-possible}
@@ -24,12 +22,10 @@ use Rattle.ledger.proofs.Verdicts.{with-accepted, with-refused}
 -- ---- a verdict's numbers
 
 pub number-most : (f : Frame) → verdictOn f .number ≤ 9
-unfolding judgeBy
-number-most (ed, f) = refusal-small ed unmarked f
+number-most (ed, f) = every-verdict ed .number-most f
 
 repaired-most : (f : Frame) → verdictOn f .repaired ≤ 8
-unfolding judgeBy
-repaired-most (ed, f) = places-small ed unmarked f
+repaired-most (ed, f) = every-verdict ed .places-most f
 
 places-most : (f : Frame) → placesCounted (verdictOn f) ≤ 8 * digit (eqb (verdictOn f .number) 0)
 unfolding digit

@@ -9,8 +9,8 @@ use lib.Dec.{eqb}
 use lib.ListN.{length}
 use borrow.Author.Tests.{eqb-true, eqb-false}
 use Rattle.frame.specs.declared.Edition.the-variants.{First}
-use Rattle.ledger.specs.Counting.{Frame, ledgerOf, mostFrames, ListOf, possible, fresh, countOf, countedIn}
-use Rattle.ledger.specs.Report.{reportOf, printNumber, printOf, notReport, parseOf}
+use Rattle.ledger.specs.Counting.{Frame, ledgerOf, mostFrames, Possible, possible, fresh, countOf, countedIn}
+use Rattle.ledger.specs.Report.{ledgerReport, printNumber, printOf, notReport, parseOf}
 use Rattle.ledger.specs.Promises.{Sized, DayLedger, LedgerReports}
 use Rattle.ledger.specs.declared.Ledger.{Ledger}
 use Rattle.ledger.specs.declared.LedgerAnswer.{LedgerAnswer}
@@ -20,14 +20,14 @@ use Rattle.ledger.proofs.Given.{given}
 use Rattle.ledger.proofs.Reports.{print-order, parse-print, print-parse, settled, apart, report-length, print-impossible, print-other-size, print-accepted, printed, unchanged}
 use Rattle.ledger.proofs.Worked.{two-pieces, no-frames}
 
-pub listed-passes : (l : Ledger) → ListOf l → possible l ≡ true
+pub listed-passes : (l : Ledger) → Possible l → possible l ≡ true
 listed-passes l g = ap possible (sym (g .gives)) ∙ list-possible (g .frames) (g .few)
 
 stays : (fs gs : List Frame) → length fs ≡ mostFrames → countedIn fresh (fs ++ gs) ≡ ledgerOf fs
 stays fs gs h =
     counted-append fresh fs gs ∙ ap (λ (l : Ledger). countedIn l gs) (fresh-counted fs (omega arith)) ∙ list-stays fs gs h
 
-impossible : (l : Ledger) (f : Frame) → Sized l → (ListOf l → ⊥) → countOf l f ≡ record { number = 18; ledger = l }
+impossible : (l : Ledger) (f : Frame) → Sized l → (Possible l → ⊥) → countOf l f ≡ record { number = 18; ledger = l }
 impossible l f nine n = go (possible l) refl
   where
     go : (t : Bool) → possible l ≡ t → countOf l f ≡ record { number = 18; ledger = l }
@@ -38,7 +38,7 @@ number-of : LedgerAnswer → ℕ
 number-of a = a .number
 
 -- a possible ledger is answered with 19 or 0
-impossible-only : (l : Ledger) (f : Frame) → countOf l f .number ≡ 18 → ListOf l → ⊥
+impossible-only : (l : Ledger) (f : Frame) → countOf l f .number ≡ 18 → Possible l → ⊥
 unfolding number-of
 impossible-only l f e g = go (eqb (l .seen) mostFrames) refl
   where
@@ -67,30 +67,30 @@ day-ledger =
 
 -- ---- the report
 
-listed-sized : (l : Ledger) → ListOf l → Sized l
+listed-sized : (l : Ledger) → Possible l → Sized l
 listed-sized l g = subst Sized (g .gives) (list-nine (g .frames))
 
-printed-read : (l : Ledger) → ListOf l → parseOf (reportOf l) ≡ record { number = 0; ledger = l }
+printed-read : (l : Ledger) → Possible l → parseOf (ledgerReport l) ≡ record { number = 0; ledger = l }
 printed-read l g = parse-print l (listed-sized l g) (listed-passes l g)
 
-read-printed : (s : List ℕ) → parseOf s .number ≡ 0 → ListOf (parseOf s .ledger) × (reportOf (parseOf s .ledger) ≡ s)
+read-printed : (s : List ℕ) → parseOf s .number ≡ 0 → Possible (parseOf s .ledger) × (ledgerReport (parseOf s .ledger) ≡ s)
 read-printed s e = let r = print-parse s e in (given First (parseOf s .ledger) (r .1 .0) (r .0) .0, r .1 .1)
 
-refused-if-none : (s : List ℕ) → ((l : Ledger) → ListOf l → reportOf l ≢ s) → parseOf s ≡ notReport
+refused-if-none : (s : List ℕ) → ((l : Ledger) → Possible l → ledgerReport l ≢ s) → parseOf s ≡ notReport
 refused-if-none s n = go (settled s)
   where
     go : (parseOf s .number ≡ 0) ⊎ (parseOf s ≡ notReport) → parseOf s ≡ notReport
     go (inl e) = let r = read-printed s e in absurd (n (parseOf s .ledger) (r .0) (r .1))
     go (inr e) = e
 
-none-if-refused : (s : List ℕ) → parseOf s .number ≡ 18 → (l : Ledger) → ListOf l → reportOf l ≢ s
+none-if-refused : (s : List ℕ) → parseOf s .number ≡ 18 → (l : Ledger) → Possible l → ledgerReport l ≢ s
 unfolding number-of
 none-if-refused s e l g same = let z = ap number-of (sym (ap parseOf same) ∙ printed-read l g) in omega arith
 
-printed-whole : (l : Ledger) (out : List ℕ) → ListOf l → length out ≡ length (reportOf l) → (printNumber l (length out) ≡ 0) × (printOf l out ≡ reportOf l)
+printed-whole : (l : Ledger) (out : List ℕ) → Possible l → length out ≡ length (ledgerReport l) → (printNumber l (length out) ≡ 0) × (printOf l out ≡ ledgerReport l)
 printed-whole l out g e = let n = print-accepted l (length out) (listed-passes l g) e in (n, printed l out n)
 
-not-printed : (l : Ledger) (n : ℕ) → Sized l → (ListOf l → ⊥) → printNumber l n ≡ 18
+not-printed : (l : Ledger) (n : ℕ) → Sized l → (Possible l → ⊥) → printNumber l n ≡ 18
 not-printed l n nine none = go (possible l) refl
   where
     go : (t : Bool) → possible l ≡ t → printNumber l n ≡ 18

@@ -22,7 +22,7 @@ use Rattle.decimals.specs.declared.Found.the-variants.{Number, Nothing}
 use Rattle.decimals.proofs.Decimals.{limit, length-most, length-last}
 use Rattle.decimals.proofs.Readings.{Reads, starts-same, starts-split, decimal-read, read-decimal}
 use Rattle.ledger.specs.Counting.{possible}
-use Rattle.ledger.specs.Report.{labels, numbersOf, Words, labelledLine, labelledLines, reportOf, lengthNumber, lengthOf, printTests, printNumber, printOf, lineEnded, lineAt, inFront, lineThen, numbersIn, ledgerFrom, notReport, parsedFrom, parseOf}
+use Rattle.ledger.specs.Report.{labels, numbersOf, Within64, labelledLine, labelledLines, ledgerReport, lengthNumber, lengthOf, printTests, printNumber, printOf, lineEnded, lineAt, inFront, lineThen, numbersIn, ledgerFrom, notReport, parsedFrom, parseOf}
 use Rattle.ledger.specs.declared.Ledger.{Ledger}
 use Rattle.ledger.specs.declared.LedgerAnswer.{LedgerAnswer}
 use Rattle.ledger.proofs.Possible.{possible-counts}
@@ -126,7 +126,7 @@ line-is label s n k e = go (startsWith label s) refl (decimalAt (drop (length la
 
 -- ---- any labels and numbers
 
-pub numbers-in : (ls : List (List ℕ)) (ns : List ℕ) → length ns ≡ length ls → Words ns → numbersIn ls (labelledLines ls ns) ≡ some ns
+pub numbers-in : (ls : List (List ℕ)) (ns : List ℕ) → length ns ≡ length ls → Within64 ns → numbersIn ls (labelledLines ls ns) ≡ some ns
 unfolding numbersIn labelledLines
 numbers-in [] [] e w = refl
 numbers-in [] (n ∷ ns) e w = absurd (omega arith)
@@ -140,7 +140,7 @@ numbers-in (l ∷ ls) (n ∷ ns) e w =
 -- the text is these labels' lines with these numbers
 pub record Lines (ls : List (List ℕ)) (s ns : List ℕ) : Type 0 where
   pub as-many : length ns ≡ length ls
-  pub words : Words ns
+  pub words : Within64 ns
   pub text : labelledLines ls ns ≡ s
 
 lines-more : (l : List ℕ) (ls : List (List ℕ)) (s ns : List ℕ) (n k : ℕ) → Line l s n k → Lines ls (drop k s) ns → Lines (l ∷ ls) s (n ∷ ns)
@@ -148,7 +148,7 @@ unfolding labelledLines
 lines-more l ls s ns n k h t =
     record { as-many = omega (arith, t .as-many); words = go; text = ap (labelledLine l n ++_) (t .text) ∙ h .text }
   where
-    go : Words (n ∷ ns)
+    go : Within64 (n ∷ ns)
     go zero = h .small
     go (suc i) = t .words i
 
@@ -220,7 +220,7 @@ at-most-sum (n ∷ ns) zero = omega arith
 at-most-sum (n ∷ ns) (suc i) = omega (arith, at-most-sum ns i)
 
 -- 4,000,000 frames seen, as many refused or accepted, and 32,000,000 places
-pub possible-words : (l : Ledger) → possible l ≡ true → Words (numbersOf l)
+pub possible-words : (l : Ledger) → possible l ≡ true → Within64 (numbersOf l)
 unfolding numbersOf sum
 possible-words l p i =
     let c = possible-counts l p in
@@ -228,12 +228,12 @@ possible-words l p i =
 
 -- ---- printed and read
 
-pub report-numbers : (l : Ledger) → length (l .refused) ≡ 9 → Words (numbersOf l) → numbersIn labels (reportOf l) ≡ some (numbersOf l)
-unfolding reportOf
+pub report-numbers : (l : Ledger) → length (l .refused) ≡ 9 → Within64 (numbersOf l) → numbersIn labels (ledgerReport l) ≡ some (numbersOf l)
+unfolding ledgerReport
 report-numbers l nine w = numbers-in labels (numbersOf l) (twelve-numbers l nine ∙ sym twelve-labels) w
 
 -- "else that ledger": what is printed of a possible ledger is read as that ledger
-pub parse-print : (l : Ledger) → length (l .refused) ≡ 9 → possible l ≡ true → parseOf (reportOf l) ≡ record { number = 0; ledger = l }
+pub parse-print : (l : Ledger) → length (l .refused) ≡ 9 → possible l ≡ true → parseOf (ledgerReport l) ≡ record { number = 0; ledger = l }
 unfolding parseOf
 parse-print l nine p =
     ap parsedFrom (report-numbers l nine (possible-words l p))
@@ -242,7 +242,7 @@ parse-print l nine p =
 
 -- the text is the report of this ledger, and some list of frames gives it
 abbrev pub ReportOf : List ℕ → Ledger → Type 0
-ReportOf s l = (possible l ≡ true) × ((length (l .refused) ≡ 9) × (reportOf l ≡ s))
+ReportOf s l = (possible l ≡ true) × ((length (l .refused) ≡ 9) × (ledgerReport l ≡ s))
 
 -- the reader answers with the ledger whose report the text is, or with 18
 pub data Settled (s : List ℕ) : LedgerAnswer → Type 0 where
@@ -250,7 +250,7 @@ pub data Settled (s : List ℕ) : LedgerAnswer → Type 0 where
   other : Settled s notReport
 
 pub settle : (s : List ℕ) → Settled s (parseOf s)
-unfolding parseOf reportOf
+unfolding parseOf ledgerReport
 settle s = go (numbersIn labels s) refl
   where
     judged : (ns : List ℕ) → Lines labels s ns → (t : Bool) → possible (ledgerFrom ns) ≡ t → Settled s (cond t (record { number = 0; ledger = ledgerFrom ns }) notReport)
@@ -279,7 +279,7 @@ settled s = go (settle s)
     go other = inr refl
 
 -- two ledgers have the same report only if they are the same
-pub apart : (l m : Ledger) → length (l .refused) ≡ 9 → length (m .refused) ≡ 9 → Words (numbersOf l) → Words (numbersOf m) → reportOf l ≡ reportOf m → l ≡ m
+pub apart : (l m : Ledger) → length (l .refused) ≡ 9 → length (m .refused) ≡ 9 → Within64 (numbersOf l) → Within64 (numbersOf m) → ledgerReport l ≡ ledgerReport m → l ≡ m
 apart l m nine-l nine-m w v e =
     let same : some (numbersOf l) ≡ some (numbersOf m) = sym (report-numbers l nine-l w) ∙ ap (numbersIn labels) e ∙ report-numbers m nine-m v in
     let numbers : numbersOf l ≡ numbersOf m = cc in
@@ -303,7 +303,7 @@ unfolding labels sum
 length-twelve ns e = omega (arith, length-lines labels ns e)
 
 -- at least a digit each
-digits-least : (ns : List ℕ) → Words ns → length ns ≤ sum (map digitCount ns)
+digits-least : (ns : List ℕ) → Within64 ns → length ns ≤ sum (map digitCount ns)
 unfolding sum
 digits-least [] w = omega arith
 digits-least (n ∷ ns) w = omega (arith, length-last n (w 0), digits-least ns (λ i. w (suc i)))
@@ -340,8 +340,8 @@ numbers-most l nine p =
       length-most 7 (l .repaired) (omega (arith, c .all, c .few, c .eight)),
     )
 
-pub report-length : (l : Ledger) → length (l .refused) ≡ 9 → possible l ≡ true → (137 ≤ length (reportOf l)) × (length (reportOf l) ≤ 203)
-unfolding reportOf
+pub report-length : (l : Ledger) → length (l .refused) ≡ 9 → possible l ≡ true → (137 ≤ length (ledgerReport l)) × (length (ledgerReport l) ≤ 203)
+unfolding ledgerReport
 report-length l nine p =
     let twelve = twelve-numbers l nine in
     let least = digits-least (numbersOf l) (possible-words l p) in
@@ -354,11 +354,11 @@ report-length l nine p =
 module _ (l : Ledger) where
   pub length-impossible : possible l ≡ false → (lengthNumber l ≡ 18) × (lengthOf l ≡ 0)
   unfolding lengthNumber lengthOf
-  length-impossible e = (ap (λ t. cond t 0 18) e, ap (λ t. cond t (length (reportOf l)) 0) e)
+  length-impossible e = (ap (λ t. cond t 0 18) e, ap (λ t. cond t (length (ledgerReport l)) 0) e)
 
-  pub length-possible : possible l ≡ true → (lengthNumber l ≡ 0) × (lengthOf l ≡ length (reportOf l))
+  pub length-possible : possible l ≡ true → (lengthNumber l ≡ 0) × (lengthOf l ≡ length (ledgerReport l))
   unfolding lengthNumber lengthOf
-  length-possible e = (ap (λ t. cond t 0 18) e, ap (λ t. cond t (length (reportOf l)) 0) e)
+  length-possible e = (ap (λ t. cond t 0 18) e, ap (λ t. cond t (length (ledgerReport l)) 0) e)
 
 -- of any ledger
 pub report-most : (l : Ledger) → length (l .refused) ≡ 9 → lengthOf l ≤ 203
@@ -373,19 +373,19 @@ module _ (l : Ledger) (n : ℕ) where
   unfolding printNumber
   print-impossible e = refusal-here 18 _ (ap not e)
 
-  pub print-other-size : possible l ≡ true → (n ≡ length (reportOf l) → ⊥) → printNumber l n ≡ 27
+  pub print-other-size : possible l ≡ true → (n ≡ length (ledgerReport l) → ⊥) → printNumber l n ≡ 27
   unfolding printNumber
-  print-other-size e z = refusal-later 18 _ (ap not e) ∙ refusal-here 27 [] (ap not (ne-eqb n (length (reportOf l)) z))
+  print-other-size e z = refusal-later 18 _ (ap not e) ∙ refusal-here 27 [] (ap not (ne-eqb n (length (ledgerReport l)) z))
 
-  pub print-accepted : possible l ≡ true → n ≡ length (reportOf l) → printNumber l n ≡ 0
+  pub print-accepted : possible l ≡ true → n ≡ length (ledgerReport l) → printNumber l n ≡ 0
   unfolding printNumber
-  print-accepted e z = none-refusal (printTests l n) (ap not e, (ap not (eq-eqb n (length (reportOf l)) z), tt))
+  print-accepted e z = none-refusal (printTests l n) (ap not e, (ap not (eq-eqb n (length (ledgerReport l)) z), tt))
 
 module _ (l : Ledger) (out : List ℕ) where
-  pub printed : printNumber l (length out) ≡ 0 → printOf l out ≡ reportOf l
+  pub printed : printNumber l (length out) ≡ 0 → printOf l out ≡ ledgerReport l
   unfolding printOf
-  printed e = ap (λ t. cond t (reportOf l) out) (eq-eqb (printNumber l (length out)) 0 e)
+  printed e = ap (λ t. cond t (ledgerReport l) out) (eq-eqb (printNumber l (length out)) 0 e)
 
   pub unchanged : (printNumber l (length out) ≡ 0 → ⊥) → printOf l out ≡ out
   unfolding printOf
-  unchanged e = ap (λ t. cond t (reportOf l) out) (ne-eqb (printNumber l (length out)) 0 e)
+  unchanged e = ap (λ t. cond t (ledgerReport l) out) (ne-eqb (printNumber l (length out)) 0 e)

@@ -16,7 +16,7 @@ use Rattle.frame.specs.declared.Verdict.{Verdict}
 use Rattle.frame.proofs.Marks.{marked-frames}
 use Rattle.frame_verdicts.proofs.Refused.{verdict-refused}
 use Rattle.ledger.specs.Counting.{framesWith, placesCounted, placesRepaired, refusals, ledgerOf, fresh}
-use Rattle.ledger.specs.Report.{labels, numbersOf, labelledLines, reportOf}
+use Rattle.ledger.specs.Report.{labels, numbersOf, labelledLines, ledgerReport}
 use Rattle.ledger.specs.Worked.{twoPieces, noFrames}
 use Rattle.ledger.specs.declared.Ledger.{Ledger}
 
@@ -35,12 +35,12 @@ unfolding ledgerOf framesWith placesRepaired sum ofTwo
 list-two ed f x = refl
 
 pub two-pieces : (ed : Edition) (f x : List ℕ) → judgeOf ed f ≡ record { number = 0; repaired = 0 } → length x ≢ 26
-    → reportOf (ledgerOf ((ed, f) ∷ (ed, x) ∷ [])) ≡ twoPieces
-unfolding ofTwo digit reportOf labels numbersOf labelledLines digits twoPieces
+    → ledgerReport (ledgerOf ((ed, f) ∷ (ed, x) ∷ [])) ≡ twoPieces
+unfolding ofTwo digit ledgerReport labels numbersOf labelledLines digits twoPieces
 two-pieces ed f x accepted short =
     let refused : judgeOf ed x ≡ record { number = 1; repaired = 0 } = verdict-refused ed x 1 (omega arith) (marked-frames ed .short-frame unmarked x short) in
-    ap reportOf (list-two ed f x) ∙ ap₂ (λ (v w : Verdict). reportOf (ofTwo v w)) accepted refused
+    ap ledgerReport (list-two ed f x) ∙ ap₂ (λ (v w : Verdict). ledgerReport (ofTwo v w)) accepted refused
 
-pub no-frames : reportOf fresh ≡ noFrames
-unfolding reportOf labels numbersOf labelledLines digits noFrames
+pub no-frames : ledgerReport fresh ≡ noFrames
+unfolding ledgerReport labels numbersOf labelledLines digits noFrames
 no-frames = refl

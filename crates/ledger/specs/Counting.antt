@@ -62,7 +62,7 @@ Each P [] = Unit {0}
 Each P (f ∷ fs) = P f × Each P fs
 
 -- a list of at most 4,000,000 frames, which are bytes, that gives the ledger
-pub record ListOf (l : Ledger) : Type 0 where
+pub record Possible (l : Ledger) : Type 0 where
   pub frames : List Frame
   pub all-bytes : Each (λ f. Bytes (f .1)) frames
   pub few : length frames ≤ mostFrames

@@ -8,8 +8,8 @@ use lib.ListN.{length}
 use Rattle.bits.specs.Refusal.{testNumbers}
 use Rattle.frame.specs.Read.{judgeOf}
 use Rattle.frame.specs.declared.Edition.{Edition}
-use Rattle.ledger.specs.Counting.{Frame, ledgerOf, mostFrames, Each, ListOf, possible, fresh, countTests, countOf, countedIn}
-use Rattle.ledger.specs.Report.{numbersOf, Words, reportOf, printTests, printNumber, printOf, notReport, parseOf}
+use Rattle.ledger.specs.Counting.{Frame, ledgerOf, mostFrames, Each, Possible, possible, fresh, countTests, countOf, countedIn}
+use Rattle.ledger.specs.Report.{numbersOf, Within64, ledgerReport, printTests, printNumber, printOf, notReport, parseOf}
 use Rattle.ledger.specs.Worked.{twoPieces, noFrames}
 use Rattle.ledger.specs.declared.Ledger.{Ledger}
 
@@ -29,37 +29,37 @@ pub record DayLedger : Type 0 where
   pub new-list : ledgerOf [] ≡ fresh
   -- a ledger is possible, some list of at most 4,000,000 frames gives it, exactly when its numbers pass the test; all frames of the list may be judged by
   -- whichever edition
-  pub listed-passes : (l : Ledger) → ListOf l → possible l ≡ true
-  pub passing-listed : (ed : Edition) (l : Ledger) → Sized l → possible l ≡ true → (g : ListOf l) × Each (λ f. f .0 ≡ ed) (g .frames)
+  pub listed-passes : (l : Ledger) → Possible l → possible l ≡ true
+  pub passing-listed : (ed : Edition) (l : Ledger) → Sized l → possible l ≡ true → (g : Possible l) × Each (λ f. f .0 ≡ ed) (g .frames)
   -- a list's ledger has the nine numbers
   pub sized : (fs : List Frame) → Sized (ledgerOf fs)
   -- an impossible ledger handed in is 18 and stays as it is, and no possible one is; before 19
-  pub impossible : (l : Ledger) (f : Frame) → Sized l → (ListOf l → ⊥) → countOf l f ≡ record { number = 18; ledger = l }
-  pub impossible-only : (l : Ledger) (f : Frame) → countOf l f .number ≡ 18 → ListOf l → ⊥
+  pub impossible : (l : Ledger) (f : Frame) → Sized l → (Possible l → ⊥) → countOf l f ≡ record { number = 18; ledger = l }
+  pub impossible-only : (l : Ledger) (f : Frame) → countOf l f .number ≡ 18 → Possible l → ⊥
   pub order : (l : Ledger) → testNumbers (countTests l) ≡ 18 ∷ 19 ∷ []
 
 pub record LedgerReports : Type 0 where
   -- what is printed of a possible ledger is read as that ledger
-  pub printed-read : (l : Ledger) → ListOf l → parseOf (reportOf l) ≡ record { number = 0; ledger = l }
+  pub printed-read : (l : Ledger) → Possible l → parseOf (ledgerReport l) ≡ record { number = 0; ledger = l }
   -- what is read is the report of a possible ledger, and prints the same bytes
-  pub read-printed : (s : List ℕ) → parseOf s .number ≡ 0 → ListOf (parseOf s .ledger) × (reportOf (parseOf s .ledger) ≡ s)
+  pub read-printed : (s : List ℕ) → parseOf s .number ≡ 0 → Possible (parseOf s .ledger) × (ledgerReport (parseOf s .ledger) ≡ s)
   -- refusal 18 exactly when the bytes are not a report of some possible ledger, and no other refusal
-  pub refused-if-none : (s : List ℕ) → ((l : Ledger) → ListOf l → reportOf l ≢ s) → parseOf s ≡ notReport
-  pub none-if-refused : (s : List ℕ) → parseOf s .number ≡ 18 → (l : Ledger) → ListOf l → reportOf l ≢ s
+  pub refused-if-none : (s : List ℕ) → ((l : Ledger) → Possible l → ledgerReport l ≢ s) → parseOf s ≡ notReport
+  pub none-if-refused : (s : List ℕ) → parseOf s .number ≡ 18 → (l : Ledger) → Possible l → ledgerReport l ≢ s
   pub settled : (s : List ℕ) → (parseOf s .number ≡ 0) ⊎ (parseOf s ≡ notReport)
   -- two ledgers of numbers of 64 bits, possible or not, print alike only if they are one
-  pub apart : (l m : Ledger) → Sized l → Sized m → Words (numbersOf l) → Words (numbersOf m) → reportOf l ≡ reportOf m → l ≡ m
+  pub apart : (l m : Ledger) → Sized l → Sized m → Within64 (numbersOf l) → Within64 (numbersOf m) → ledgerReport l ≡ ledgerReport m → l ≡ m
   -- the report of a possible ledger is printed into a buffer of its size; one of another size is 27, and an impossible ledger 18 whatever the buffer
-  pub printed : (l : Ledger) (out : List ℕ) → ListOf l → length out ≡ length (reportOf l) → (printNumber l (length out) ≡ 0) × (printOf l out ≡ reportOf l)
-  pub other-size : (l : Ledger) (n : ℕ) → ListOf l → n ≢ length (reportOf l) → printNumber l n ≡ 27
-  pub impossible : (l : Ledger) (n : ℕ) → Sized l → (ListOf l → ⊥) → printNumber l n ≡ 18
+  pub printed : (l : Ledger) (out : List ℕ) → Possible l → length out ≡ length (ledgerReport l) → (printNumber l (length out) ≡ 0) × (printOf l out ≡ ledgerReport l)
+  pub other-size : (l : Ledger) (n : ℕ) → Possible l → n ≢ length (ledgerReport l) → printNumber l n ≡ 27
+  pub impossible : (l : Ledger) (n : ℕ) → Sized l → (Possible l → ⊥) → printNumber l n ≡ 18
   pub order : (l : Ledger) (n : ℕ) → testNumbers (printTests l n) ≡ 18 ∷ 27 ∷ []
   -- at a refusal the buffer stays as it was
   pub unchanged : (l : Ledger) (out : List ℕ) → printNumber l (length out) ≢ 0 → printOf l out ≡ out
   -- it has 137 to 203 bytes
-  pub least : (l : Ledger) → ListOf l → 137 ≤ length (reportOf l)
-  pub most : (l : Ledger) → ListOf l → length (reportOf l) ≤ 203
+  pub least : (l : Ledger) → Possible l → 137 ≤ length (ledgerReport l)
+  pub most : (l : Ledger) → Possible l → length (ledgerReport l) ≤ 203
   -- the two pieces of document 01's listing, an accepted frame of which nothing is repaired and then a short one, by any edition; and no frame at all
   pub two-pieces : (ed : Edition) (f x : List ℕ) → judgeOf ed f ≡ record { number = 0; repaired = 0 } → length x ≢ 26
-      → reportOf (ledgerOf ((ed, f) ∷ (ed, x) ∷ [])) ≡ twoPieces
-  pub no-frames : reportOf fresh ≡ noFrames
+      → ledgerReport (ledgerOf ((ed, f) ∷ (ed, x) ∷ [])) ≡ twoPieces
+  pub no-frames : ledgerReport fresh ≡ noFrames

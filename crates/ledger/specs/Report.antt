@@ -32,8 +32,8 @@ unfoldable pub numbersOf : Ledger → List ℕ
 numbersOf l = l .seen ∷ (l .refused ++ l .accepted ∷ l .repaired ∷ [])
 
 -- numbers of 64 bits
-abbrev pub Words : List ℕ → Type 0
-Words ns = (i : ℕ) → getD ns i 0 < 18446744073709551616
+abbrev pub Within64 : List ℕ → Type 0
+Within64 ns = (i : ℕ) → getD ns i 0 < 18446744073709551616
 
 -- "a line each with one space and a plain decimal number"
 abbrev pub labelledLine : List ℕ → ℕ → List ℕ
@@ -44,8 +44,8 @@ labelledLines [] ns = []
 labelledLines (label ∷ ls) [] = []
 labelledLines (label ∷ ls) (n ∷ ns) = labelledLine label n ++ labelledLines ls ns
 
-unfoldable pub reportOf : Ledger → List ℕ
-reportOf l = labelledLines labels (numbersOf l)
+unfoldable pub ledgerReport : Ledger → List ℕ
+ledgerReport l = labelledLines labels (numbersOf l)
 
 -- ---- printing
 
@@ -54,18 +54,18 @@ unfoldable pub lengthNumber : Ledger → ℕ
 lengthNumber l = cond (possible l) 0 18
 
 unfoldable pub lengthOf : Ledger → ℕ
-lengthOf l = cond (possible l) (length (reportOf l)) 0
+lengthOf l = cond (possible l) (length (ledgerReport l)) 0
 
 -- "an impossible ledger handed in is 18 too, .. before 27, a report buffer of another size": the tests of a buffer of n bytes
 abbrev pub printTests : Ledger → ℕ → List (ℕ × Bool)
-printTests l n = (18, not (possible l)) ∷ (27, not (eqb n (length (reportOf l)))) ∷ []
+printTests l n = (18, not (possible l)) ∷ (27, not (eqb n (length (ledgerReport l)))) ∷ []
 
 unfoldable pub printNumber : Ledger → ℕ → ℕ
 printNumber l n = firstRefusal (printTests l n)
 
 -- what printing leaves in the buffer
 unfoldable pub printOf : Ledger → List ℕ → List ℕ
-printOf l out = cond (eqb (printNumber l (length out)) 0) (reportOf l) out
+printOf l out = cond (eqb (printNumber l (length out)) 0) (ledgerReport l) out
 
 -- ---- reading
 

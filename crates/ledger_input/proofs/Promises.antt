@@ -12,7 +12,7 @@ use Rattle.listing.specs.Lines.{pieceCount}
 use Rattle.listing.specs.declared.Pieces.the-variants.{Frames}
 use Rattle.listing.proofs.Counts.{count-none, count-least, count-whole, count-two}
 use Rattle.ledger.specs.Counting.{Frame, ledgerOf, mostFrames, possible}
-use Rattle.ledger.specs.Report.{reportOf, lengthOf}
+use Rattle.ledger.specs.Report.{ledgerReport, lengthOf}
 use Rattle.ledger.specs.Worked.{twoPieces, noFrames}
 use Rattle.ledger.specs.declared.Ledger.{Ledger}
 use Rattle.ledger.proofs.Lists.{list-possible}
@@ -51,8 +51,8 @@ module _ (ed : Edition) where
       let p = reported s in
       ap (λ (m : Ledger). take (lengthOf m) (withReport m out)) (whole ed k s h)
       ∙ ap (λ (n : ℕ). take n (withReport l out)) (length-possible l p .1)
-      ∙ ap (λ (t : Bool). take (length (reportOf l)) (cond t (reportOf l ++ drop (length (reportOf l)) out) out)) p
-      ∙ take-at (reportOf l) (drop (length (reportOf l)) out) (length (reportOf l)) refl
+      ∙ ap (λ (t : Bool). take (length (ledgerReport l)) (cond t (ledgerReport l ++ drop (length (ledgerReport l)) out) out)) p
+      ∙ take-at (ledgerReport l) (drop (length (ledgerReport l)) out) (length (ledgerReport l)) refl
 
   example : (f x : List ℕ) → length f ≡ 26 → judgeOf ed f ≡ record { number = 0; repaired = 0 } → 0 < length x → length x < 26 → inputReport ed (f ++ x) ≡ twoPieces
   unfolding inputLedger
@@ -63,7 +63,7 @@ module _ (ed : Edition) where
       frames-next ed 0 f ∙ ap₂ (λ (a : List ℕ) (fs : List Frame). (ed, a) ∷ fs) (take-all 26 f (omega arith)) (frames-none ed (drop 26 f)) in
       let last : framesIn ed 1 x ≡ (ed, x) ∷ [] =
       frames-next ed 0 x ∙ ap₂ (λ (a : List ℕ) (fs : List Frame). (ed, a) ∷ fs) (take-all 26 x (omega arith)) (frames-none ed (drop 26 x)) in
-      ap (λ (fs : List Frame). reportOf (ledgerOf fs))
+      ap (λ (fs : List Frame). ledgerReport (ledgerOf fs))
       (ap (λ (n : ℕ). framesIn ed n (f ++ x)) k ∙ frames-append ed 1 1 f x h ∙ ap₂ _++_ own last)
       ∙ ledger-reports .two-pieces ed f x accepted (λ e. omega arith)
 
@@ -72,8 +72,8 @@ module _ (ed : Edition) where
   empty =
       let none = count-none Frames in
       let k : min (pieceCount Frames 0) mostFrames ≡ 0 = omega arith in
-      ap (λ (n : ℕ). reportOf (ledgerOf (framesIn ed n []))) k ∙ ap (λ (fs : List Frame). reportOf (ledgerOf fs)) (frames-none ed [])
-      ∙ ap reportOf (day-ledger .new-list) ∙ ledger-reports .no-frames
+      ap (λ (n : ℕ). ledgerReport (ledgerOf (framesIn ed n []))) k ∙ ap (λ (fs : List Frame). ledgerReport (ledgerOf fs)) (frames-none ed [])
+      ∙ ap ledgerReport (day-ledger .new-list) ∙ ledger-reports .no-frames
 
   pub ledger-turns : LedgerTurns ed
   ledger-turns = record { whole = written; stops = stops; example = example; empty = empty }

@@ -9,7 +9,7 @@ use Rattle.frame.specs.declared.Edition.{Edition}
 use Rattle.listing.specs.Lines.{pieceSize, pieceCount}
 use Rattle.listing.specs.declared.Pieces.the-variants.{Frames}
 use Rattle.ledger.specs.Counting.{Frame, ledgerOf, mostFrames, possible, fresh, countedIn}
-use Rattle.ledger.specs.Report.{reportOf, lengthOf}
+use Rattle.ledger.specs.Report.{ledgerReport, lengthOf}
 use Rattle.ledger.specs.declared.Ledger.{Ledger}
 use Rattle.ledger_input.specs.declared.LedgerTurn.{LedgerTurn}
 
@@ -28,7 +28,7 @@ inputLedger ed s = ledgerOf (framesIn ed (min (pieceCount Frames (length s)) mos
 
 -- its report
 abbrev pub inputReport : Edition → List ℕ → List ℕ
-inputReport ed s = reportOf (inputLedger ed s)
+inputReport ed s = ledgerReport (inputLedger ed s)
 
 -- ---- in turns
 
@@ -63,7 +63,7 @@ programLedger ed (suc k) t s =
 
 -- a buffer with the report of a possible ledger at its start
 unfoldable pub withReport : Ledger → List ℕ → List ℕ
-withReport l out = cond (possible l) (reportOf l ++ drop (length (reportOf l)) out) out
+withReport l out = cond (possible l) (ledgerReport l ++ drop (length (ledgerReport l)) out) out
 
 -- as many bytes as the report has, from the buffer that it was put into
 unfoldable pub programText : Edition → (k : ℕ) → (s out : List ℕ) → List ℕ

@@ -8,7 +8,7 @@ use lib.Dec.{ltb}
 use lib.ListN.{length, take, drop, length-take}
 use Rattle.frame.specs.declared.Edition.{Edition}
 use Rattle.ledger.specs.Counting.{possible}
-use Rattle.ledger.specs.Report.{reportOf, lengthOf, printNumber, printOf}
+use Rattle.ledger.specs.Report.{ledgerReport, lengthOf, printNumber, printOf}
 use Rattle.ledger.specs.declared.Ledger.{Ledger}
 use Rattle.ledger.proofs.Reports.{length-impossible, length-possible, report-length, print-impossible, print-accepted, printed, unchanged}
 use Rattle.ledger_input.specs.Input.{wantedAt, ledgerAfter, turnAfter, withReport}
@@ -22,10 +22,10 @@ module _ (l : Ledger) (nine : length (l .refused) ≡ 9) where
     where
       go : (t : Bool) → possible l ≡ t → v ++ drop bytes text ≡ withReport l text
       go true p =
-          let size : bytes ≡ length (reportOf l) = e ∙ length-possible l p .1 in
+          let size : bytes ≡ length (ledgerReport l) = e ∙ length-possible l p .1 in
           let short = report-length l nine p .1 in
-          let fits : length (take bytes text) ≡ length (reportOf l) = length-take bytes text ∙ omega arith in
-          let whole : v ≡ reportOf l = f ∙ printed l (take bytes text) (print-accepted l (length (take bytes text)) p fits) in
+          let fits : length (take bytes text) ≡ length (ledgerReport l) = length-take bytes text ∙ omega arith in
+          let whole : v ≡ ledgerReport l = f ∙ printed l (take bytes text) (print-accepted l (length (take bytes text)) p fits) in
           rw (whole, size, p)
       go false p =
           let none : bytes ≡ 0 = e ∙ length-impossible l p .1 in

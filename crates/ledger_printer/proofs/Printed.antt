@@ -14,7 +14,7 @@ use Rattle.decimals.specs.Put.{Put}
 use Rattle.decimals.proofs.Decimals.{length-word}
 use Rattle.decimals.proofs.Stores.{put-then, sets-start}
 use Rattle.ledger.specs.Counting.{possible}
-use Rattle.ledger.specs.Report.{labels, numbersOf, labelledLine, labelledLines, reportOf, printNumber, printOf}
+use Rattle.ledger.specs.Report.{labels, numbersOf, labelledLine, labelledLines, ledgerReport, printNumber, printOf}
 use Rattle.ledger.specs.declared.Ledger.{Ledger}
 use Rattle.ledger.proofs.Reports.{digitCount, length-twelve, print-impossible, print-other-size, print-accepted, printed, unchanged}
 
@@ -104,11 +104,11 @@ module _ (l : Ledger) (out : List ℕ) where
 
   -- the report's size was found from the numbers
   module _ (ns : List ℕ) (size : ℕ) (possible-ledger : possible l ≡ true) (numbers : ns ≡ numbersOf l) (counted : size ≡ length (labelledLines labels ns)) where
-    report-text : labelledLines labels ns ≡ reportOf l
-    unfolding reportOf
+    report-text : labelledLines labels ns ≡ ledgerReport l
+    unfolding ledgerReport
     report-text = ap (labelledLines labels) numbers
 
-    report-size : size ≡ length (reportOf l)
+    report-size : size ≡ length (ledgerReport l)
     report-size = counted ∙ ap length report-text
 
     pub answer-other-size : (length out ≡ size → ⊥) → (27 ≡ printNumber l (length out)) × (out ≡ printOf l out)

@@ -5,7 +5,7 @@ use Prim.Native.Nat.{ℕ}
 use lib.ListN.{length}
 use borrow.Author.Needs.{needs}
 use borrow.Author.Tests.{not-true, not-false}
-use Rattle.ledger.specs.Report.{labels, labelledLines, reportOf}
+use Rattle.ledger.specs.Report.{labels, labelledLines, ledgerReport}
 use Rattle.ledger.proofs.Reports.{length-impossible, length-possible}
 use Rattle.ledger_printer.proofs.report_length.Statement.{statement}
 use Rattle.ledger_printer.proofs.report_length.Tie as tie
@@ -29,7 +29,7 @@ lines-length-requires : tie.Need-lines-length-requires
 lines-length-requires c κs = search needs
 
 returns-2 : tie.Need-returns-2
-unfolding reportOf
+unfolding ledgerReport
 returns-2 c =
     let numbers = c .before .before in
     let tested = numbers .before in
