@@ -6,19 +6,20 @@ use mathlib.Core.List.{List, [], _∷_, _++_}
 use Prim.Native.Nat.{ℕ, _≤_}
 use native.Mathlib.Omega.{arith}
 use lib.Dec.{eqb}
-use lib.ListN.{length}
+use lib.ListN.{length, replicate}
 use borrow.Author.Tests.{eqb-true, eqb-false}
 use Rattle.frame.specs.declared.Edition.the-variants.{First}
 use Rattle.ledger.specs.Counting.{Frame, ledgerOf, mostFrames, Possible, possible, fresh, countOf, countedIn}
-use Rattle.ledger.specs.Report.{ledgerReport, printNumber, printOf, notReport, parseOf}
-use Rattle.ledger.specs.Promises.{Sized, DayLedger, LedgerReports}
+use Rattle.ledger.specs.Report.{numbersOf, ledgerReport, lengthNumber, lengthOf, printNumber, printOf, notReport, parseOf}
+use Rattle.ledger.specs.Worked.{longest}
+use Rattle.ledger.specs.Promises.{Sized, DayLedger, LedgerReports, LedgerNumbers}
 use Rattle.ledger.specs.declared.Ledger.{Ledger}
 use Rattle.ledger.specs.declared.LedgerAnswer.{LedgerAnswer}
 use Rattle.ledger.proofs.Lists.{list-possible, list-nine, list-none}
 use Rattle.ledger.proofs.Counted.{count-order, answer-impossible, answer-full, answer-counted, list-counted, list-full, list-stays, counted-append, fresh-counted}
 use Rattle.ledger.proofs.Given.{given}
-use Rattle.ledger.proofs.Reports.{print-order, parse-print, print-parse, settled, apart, report-length, print-impossible, print-other-size, print-accepted, printed, unchanged}
-use Rattle.ledger.proofs.Worked.{two-pieces, no-frames}
+use Rattle.ledger.proofs.Reports.{twelve-numbers, ledger-numbers, numbers-ledger, length-impossible, length-possible, print-order, parse-print, print-parse, settled, apart, report-length, print-impossible, print-other-size, print-accepted, printed, unchanged}
+use Rattle.ledger.proofs.Worked.{two-pieces, no-frames, least-met, longest-passes, longest-nine, longest-size}
 
 pub listed-passes : (l : Ledger) → Possible l → possible l ≡ true
 listed-passes l g = ap possible (sym (g .gives)) ∙ list-possible (g .frames) (g .few)
@@ -97,6 +98,13 @@ not-printed l n nine none = go (possible l) refl
     go true e = absurd (none (given First l nine e .0))
     go false e = print-impossible l n e
 
+not-measured : (l : Ledger) → Sized l → (Possible l → ⊥) → (lengthNumber l ≡ 18) × (lengthOf l ≡ 0)
+not-measured l nine none = go (possible l) refl
+  where
+    go : (t : Bool) → possible l ≡ t → (lengthNumber l ≡ 18) × (lengthOf l ≡ 0)
+    go true e = absurd (none (given First l nine e .0))
+    go false e = length-impossible l e
+
 pub ledger-reports : LedgerReports
 ledger-reports =
     record {
@@ -111,8 +119,21 @@ ledger-reports =
       impossible = not-printed;
       order = print-order;
       unchanged = unchanged;
+      measured = λ l g. length-possible l (listed-passes l g);
+      not-measured = not-measured;
       least = λ l g. report-length l (listed-sized l g) (listed-passes l g) .0;
       most = λ l g. report-length l (listed-sized l g) (listed-passes l g) .1;
+      least-met = least-met;
+      most-met = (given First longest longest-nine longest-passes .0, longest-size);
       two-pieces = two-pieces;
       no-frames = no-frames;
     }
+
+-- ---- the numbers
+
+zeros : numbersOf fresh ≡ replicate 12 0
+unfolding numbersOf
+zeros = refl
+
+pub ledger-as-numbers : LedgerNumbers
+ledger-as-numbers = record { size = twelve-numbers; back = ledger-numbers; again = numbers-ledger; zeros = zeros }

@@ -1,5 +1,6 @@
 -- The reports of document 02 hold of the definitions. Assumes nothing.
 use mathlib.Core.Path.{_≡_, refl, ap, ap₂, _∙_}
+use mathlib.Core.Bool.{true}
 use mathlib.Core.Logic.{_≢_}
 use mathlib.Core.List.{List, [], _∷_, map}
 use Prim.Native.Nat.{ℕ, _+_}
@@ -15,9 +16,9 @@ use Rattle.frame.specs.declared.Edition.{Edition}
 use Rattle.frame.specs.declared.Verdict.{Verdict}
 use Rattle.frame.proofs.Marks.{marked-frames}
 use Rattle.frame_verdicts.proofs.Refused.{verdict-refused}
-use Rattle.ledger.specs.Counting.{framesWith, placesCounted, placesRepaired, refusals, ledgerOf, fresh}
+use Rattle.ledger.specs.Counting.{framesWith, placesCounted, placesRepaired, refusals, ledgerOf, possible, fresh}
 use Rattle.ledger.specs.Report.{labels, numbersOf, labelledLines, ledgerReport}
-use Rattle.ledger.specs.Worked.{twoPieces, noFrames}
+use Rattle.ledger.specs.Worked.{twoPieces, noFrames, longest}
 use Rattle.ledger.specs.declared.Ledger.{Ledger}
 
 -- the ledger of two frames that are judged so
@@ -44,3 +45,20 @@ two-pieces ed f x accepted short =
 pub no-frames : ledgerReport fresh ≡ noFrames
 unfolding ledgerReport labels numbersOf labelledLines digits noFrames
 no-frames = refl
+
+-- the shortest and the longest report
+pub least-met : length (ledgerReport fresh) ≡ 137
+unfolding ledgerReport labels numbersOf labelledLines digits
+least-met = refl
+
+pub longest-passes : possible longest ≡ true
+unfolding possible sum longest
+longest-passes = refl
+
+pub longest-nine : length (longest .refused) ≡ 9
+unfolding longest
+longest-nine = refl
+
+pub longest-size : length (ledgerReport longest) ≡ 203
+unfolding ledgerReport labels numbersOf labelledLines digits longest
+longest-size = refl

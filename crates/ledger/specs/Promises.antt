@@ -4,13 +4,13 @@ use mathlib.Core.Bool.{true}
 use mathlib.Core.Logic.{_≢_, _⊎_}
 use mathlib.Core.List.{List, [], _∷_, _++_}
 use Prim.Native.Nat.{ℕ, _≤_, _<_}
-use lib.ListN.{length}
+use lib.ListN.{length, replicate}
 use Rattle.bits.specs.Refusal.{testNumbers}
 use Rattle.frame.specs.Read.{judgeOf}
 use Rattle.frame.specs.declared.Edition.{Edition}
-use Rattle.ledger.specs.Counting.{Frame, ledgerOf, mostFrames, Each, Possible, possible, fresh, countTests, countOf, countedIn}
-use Rattle.ledger.specs.Report.{numbersOf, Within64, ledgerReport, printTests, printNumber, printOf, notReport, parseOf}
-use Rattle.ledger.specs.Worked.{twoPieces, noFrames}
+use Rattle.ledger.specs.Counting.{Frame, ledgerOf, Each, Possible, possible, fresh, countTests, countOf, countedIn}
+use Rattle.ledger.specs.Report.{numbersOf, ledgerFrom, Within64, ledgerReport, lengthNumber, lengthOf, printTests, printNumber, printOf, notReport, parseOf}
+use Rattle.ledger.specs.Worked.{twoPieces, noFrames, longest}
 use Rattle.ledger.specs.declared.Ledger.{Ledger}
 
 -- a ledger has a number for each of the nine refusals
@@ -19,12 +19,12 @@ Sized l = length (l .refused) ≡ 9
 
 pub record DayLedger : Type 0 where
   -- for any sequence of at most 4,000,000 frames from a fresh ledger, counted one by one, each number equals what the list of frames itself says
-  pub counted : (fs : List Frame) → length fs ≤ mostFrames → countedIn fresh fs ≡ ledgerOf fs
+  pub counted : (fs : List Frame) → length fs ≤ 4000000 → countedIn fresh fs ≡ ledgerOf fs
   -- each of them is answered with 0 and the ledger of the list with it, be it accepted or refused
-  pub each-counted : (fs : List Frame) (f : Frame) → length fs < mostFrames → countOf (ledgerOf fs) f ≡ record { number = 0; ledger = ledgerOf (fs ++ f ∷ []) }
+  pub each-counted : (fs : List Frame) (f : Frame) → length fs < 4000000 → countOf (ledgerOf fs) f ≡ record { number = 0; ledger = ledgerOf (fs ++ f ∷ []) }
   -- at 4,000,000 frames the next is refused with 19 and the ledger stays as it is, however many come
-  pub full : (fs : List Frame) (f : Frame) → length fs ≡ mostFrames → countOf (ledgerOf fs) f ≡ record { number = 19; ledger = ledgerOf fs }
-  pub stays : (fs gs : List Frame) → length fs ≡ mostFrames → countedIn fresh (fs ++ gs) ≡ ledgerOf fs
+  pub full : (fs : List Frame) (f : Frame) → length fs ≡ 4000000 → countOf (ledgerOf fs) f ≡ record { number = 19; ledger = ledgerOf fs }
+  pub stays : (fs gs : List Frame) → length fs ≡ 4000000 → countedIn fresh (fs ++ gs) ≡ ledgerOf fs
   -- an emptied ledger starts a new list: it is fresh, and that is the ledger of no frame
   pub new-list : ledgerOf [] ≡ fresh
   -- a ledger is possible, some list of at most 4,000,000 frames gives it, exactly when its numbers pass the test; all frames of the list may be judged by
@@ -56,10 +56,24 @@ pub record LedgerReports : Type 0 where
   pub order : (l : Ledger) (n : ℕ) → testNumbers (printTests l n) ≡ 18 ∷ 27 ∷ []
   -- at a refusal the buffer stays as it was
   pub unchanged : (l : Ledger) (out : List ℕ) → printNumber l (length out) ≢ 0 → printOf l out ≡ out
-  -- it has 137 to 203 bytes
+  -- how long it is, told with 0; of an impossible ledger 18, and no length
+  pub measured : (l : Ledger) → Possible l → (lengthNumber l ≡ 0) × (lengthOf l ≡ length (ledgerReport l))
+  pub not-measured : (l : Ledger) → Sized l → (Possible l → ⊥) → (lengthNumber l ≡ 18) × (lengthOf l ≡ 0)
+  -- it has 137 to 203 bytes, and each of the two is met: that of a fresh ledger and that of `longest`
   pub least : (l : Ledger) → Possible l → 137 ≤ length (ledgerReport l)
   pub most : (l : Ledger) → Possible l → length (ledgerReport l) ≤ 203
+  pub least-met : length (ledgerReport fresh) ≡ 137
+  pub most-met : Possible longest × (length (ledgerReport longest) ≡ 203)
   -- the two pieces of document 01's listing, an accepted frame of which nothing is repaired and then a short one, by any edition; and no frame at all
   pub two-pieces : (ed : Edition) (f x : List ℕ) → judgeOf ed f ≡ record { number = 0; repaired = 0 } → length x ≢ 26
       → ledgerReport (ledgerOf ((ed, f) ∷ (ed, x) ∷ [])) ≡ twoPieces
   pub no-frames : ledgerReport fresh ≡ noFrames
+
+-- a ledger as its 12 numbers, in the order of the report
+pub record LedgerNumbers : Type 0 where
+  -- there and back
+  pub size : (l : Ledger) → Sized l → length (numbersOf l) ≡ 12
+  pub back : (l : Ledger) → Sized l → ledgerFrom (numbersOf l) ≡ l
+  pub again : (ns : List ℕ) → length ns ≡ 12 → numbersOf (ledgerFrom ns) ≡ ns
+  -- 12 zeros are a fresh ledger
+  pub zeros : numbersOf fresh ≡ replicate 12 0

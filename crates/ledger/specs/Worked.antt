@@ -1,6 +1,8 @@
--- Document 02's report of the two pieces of document 01's listing, and that of a fresh ledger, in ASCII: a line of the text in each line here. Assumes nothing.
+-- Document 02's report of the two pieces of document 01's listing, and that of a fresh ledger, in ASCII: a line of the text in each line here; and a ledger
+-- with a long one. Assumes nothing.
 use mathlib.Core.List.{List, [], _∷_}
 use Prim.Native.Nat.{ℕ}
+use Rattle.ledger.specs.declared.Ledger.{Ledger}
 
 -- `seen 2`, `refused 1 1`, `refused 2 0` and so on to `refused 9 0`, `accepted 1`, `repaired 0`
 unfoldable pub twoPieces : List ℕ
@@ -35,3 +37,13 @@ noFrames =
     ∷ 97 ∷ 99 ∷ 99 ∷ 101 ∷ 112 ∷ 116 ∷ 101 ∷ 100 ∷ 32 ∷ 48 ∷ 10
     ∷ 114 ∷ 101 ∷ 112 ∷ 97 ∷ 105 ∷ 114 ∷ 101 ∷ 100 ∷ 32 ∷ 48 ∷ 10
     ∷ []
+
+-- 4,000,000 frames, of which 100,000 and more have each number, and 10,400,000 places
+unfoldable pub longest : Ledger
+longest =
+    record {
+      seen = 4000000;
+      refused = 1000000 ∷ 1000000 ∷ 100000 ∷ 100000 ∷ 100000 ∷ 100000 ∷ 100000 ∷ 100000 ∷ 100000 ∷ [];
+      accepted = 1300000;
+      repaired = 10400000;
+    }

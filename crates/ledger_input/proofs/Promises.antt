@@ -1,33 +1,39 @@
 -- The promises hold. Assumes nothing.
 use mathlib.Core.Path.{_≡_, refl, sym, ap, ap₂, _∙_}
-use mathlib.Core.Bool.{Bool, true, cond}
+use mathlib.Core.Bool.{Bool, true, false, cond}
 use mathlib.Core.List.{List, [], _∷_, _++_, append-nil}
 use Prim.Native.Nat.{ℕ, _+_, _*_, _≤_, _<_, min}
 use native.Mathlib.Omega.{arith}
+use lib.Dec.{eqb}
 use lib.ListN.{length, take, drop, length-append}
 use lib.Seq.{take-all, take-at}
+use borrow.Author.Tests.{eqb-true, eqb-false}
+use Rattle.dsc.specs.Marks.{unmarked}
 use Rattle.frame.specs.Read.{judgeOf}
 use Rattle.frame.specs.declared.Edition.{Edition}
+use Rattle.frame.specs.declared.Verdict.{Verdict}
+use Rattle.frame.proofs.Marks.{marked-frames}
+use Rattle.frame_verdicts.proofs.Refused.{verdict-refused}
 use Rattle.listing.specs.Lines.{pieceCount}
 use Rattle.listing.specs.declared.Pieces.the-variants.{Frames}
 use Rattle.listing.proofs.Counts.{count-none, count-least, count-whole, count-two}
 use Rattle.ledger.specs.Counting.{Frame, ledgerOf, mostFrames, possible}
 use Rattle.ledger.specs.Report.{ledgerReport, lengthOf}
 use Rattle.ledger.specs.Worked.{twoPieces, noFrames}
-use Rattle.ledger.specs.declared.Ledger.{Ledger}
 use Rattle.ledger.proofs.Lists.{list-possible}
 use Rattle.ledger.proofs.Reports.{length-possible}
 use Rattle.ledger.proofs.Promises.{day-ledger, ledger-reports}
 use Rattle.ledger_input.specs.Input.{framesIn, inputLedger, inputReport, turnsAtMost, withReport, programText}
+use Rattle.ledger_input.specs.declared.LedgerTurn.{LedgerTurn}
 use Rattle.ledger_input.specs.Promises.{LedgerTurns}
 use Rattle.ledger_input.proofs.Frames.{frames-none, frames-next, frames-length, frames-append}
-use Rattle.ledger_input.proofs.Turns.{whole}
+use Rattle.ledger_input.proofs.Turns.{whole, begins, stops, ahead}
 
 module _ (ed : Edition) where
   -- 4,000,000 frames, and then anything
-  stops : (s t : List ℕ) → length s ≡ 26 * mostFrames → inputLedger ed (s ++ t) ≡ inputLedger ed s
+  rest-not-counted : (s t : List ℕ) → length s ≡ 26 * mostFrames → inputLedger ed (s ++ t) ≡ inputLedger ed s
   unfolding inputLedger
-  stops s t h =
+  rest-not-counted s t h =
       let more = count-least Frames (length (s ++ t)) mostFrames (omega (arith, length-append s t)) in
       let own = count-whole Frames (length s) mostFrames h in
       let a : min (pieceCount Frames (length (s ++ t))) mostFrames ≡ mostFrames + 0 = omega arith in
@@ -49,14 +55,26 @@ module _ (ed : Edition) where
   written k s out h =
       let l = inputLedger ed s in
       let p = reported s in
-      ap (λ (m : Ledger). take (lengthOf m) (withReport m out)) (whole ed k s h)
+      ap (λ (t : LedgerTurn). take (lengthOf (t .ledger)) (withReport (t .ledger) out)) (whole ed k s h)
       ∙ ap (λ (n : ℕ). take n (withReport l out)) (length-possible l p .1)
       ∙ ap (λ (t : Bool). take (length (ledgerReport l)) (cond t (ledgerReport l ++ drop (length (ledgerReport l)) out) out)) p
       ∙ take-at (ledgerReport l) (drop (length (ledgerReport l)) out) (length (ledgerReport l)) refl
 
-  example : (f x : List ℕ) → length f ≡ 26 → judgeOf ed f ≡ record { number = 0; repaired = 0 } → 0 < length x → length x < 26 → inputReport ed (f ++ x) ≡ twoPieces
+  -- an accepted frame has 26 bytes
+  accepted-size : (f : List ℕ) → judgeOf ed f ≡ record { number = 0; repaired = 0 } → length f ≡ 26
+  accepted-size f e = go (eqb (length f) 26) refl
+    where
+      go : (t : Bool) → eqb (length f) 26 ≡ t → length f ≡ 26
+      go true h = eqb-true (length f) 26 h
+      go false h =
+          let refused = verdict-refused ed f 1 (omega arith) (marked-frames ed .short-frame unmarked f (eqb-false (length f) 26 h)) in
+          let z : _≡_ {A = ℕ} 1 0 = ap (λ (v : Verdict). v .number) (sym refused ∙ e) in
+          absurd (omega arith)
+
+  example : (f x : List ℕ) → judgeOf ed f ≡ record { number = 0; repaired = 0 } → 0 < length x → length x < 26 → inputReport ed (f ++ x) ≡ twoPieces
   unfolding inputLedger
-  example f x h accepted some short =
+  example f x accepted some short =
+      let h = accepted-size f accepted in
       let two : pieceCount Frames (length (f ++ x)) ≡ 2 = count-two Frames (length (f ++ x)) (length x) (length-append f x ∙ omega arith) some (omega arith) in
       let k : min (pieceCount Frames (length (f ++ x))) mostFrames ≡ 1 + 1 = omega arith in
       let own : framesIn ed 1 f ≡ (ed, f) ∷ [] =
@@ -76,4 +94,14 @@ module _ (ed : Edition) where
       ∙ ap ledgerReport (day-ledger .new-list) ∙ ledger-reports .no-frames
 
   pub ledger-turns : LedgerTurns ed
-  ledger-turns = record { whole = written; stops = stops; example = example; empty = empty }
+  ledger-turns =
+      record {
+        whole = whole ed;
+        written = written;
+        begins = begins;
+        ahead = ahead ed;
+        stops = stops;
+        rest-not-counted = rest-not-counted;
+        example = example;
+        empty = empty;
+      }

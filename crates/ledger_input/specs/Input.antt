@@ -1,8 +1,10 @@
 -- The ledger of an input (document 02, l): its frames are those of the listing, pieces of 26 bytes of which the last may be short, and it is read in turns.
 -- Assumes nothing.
+use mathlib.Core.Path.{_≡_}
 use mathlib.Core.Bool.{cond}
+use mathlib.Core.Logic.{_⊎_}
 use mathlib.Core.List.{List, [], _∷_, _++_}
-use Prim.Native.Nat.{ℕ, zero, suc, _-_, _*_, min}
+use Prim.Native.Nat.{ℕ, zero, suc, _-_, _*_, _≤_, _<_, min}
 use lib.Dec.{eqb, ltb}
 use lib.ListN.{length, take, drop}
 use Rattle.frame.specs.declared.Edition.{Edition}
@@ -53,11 +55,25 @@ turnAfter ed t s =
 abbrev pub start : LedgerTurn
 start = record { ledger = fresh; wanted = 65520 }
 
--- the ledger in k turns at most, after a turn, where s is left of the input: while something is wanted, that is read and a turn is made of it
-unfoldable pub programLedger : Edition → (k : ℕ) → LedgerTurn → List ℕ → Ledger
-programLedger ed zero t s = t .ledger
-programLedger ed (suc k) t s =
-    cond (eqb (t .wanted) 0) (t .ledger) (programLedger ed k (turnAfter ed t (take (t .wanted) s)) (drop (t .wanted) s))
+-- the turn after k turns at most, where s is left of the input: while something is wanted, that is read and a turn is made of it
+unfoldable pub programTurn : Edition → (k : ℕ) → LedgerTurn → List ℕ → LedgerTurn
+programTurn ed zero t s = t
+programTurn ed (suc k) t s = cond (eqb (t .wanted) 0) t (programTurn ed k (turnAfter ed t (take (t .wanted) s)) (drop (t .wanted) s))
+
+-- a turn in the course of the program: its ledger is that of a list, and nothing is wanted, or what is read after so many frames
+pub record Standing (t : LedgerTurn) : Type 0 where
+  pub frames : List Frame
+  pub few : length frames ≤ mostFrames
+  pub counted : t .ledger ≡ ledgerOf frames
+  pub next : (t .wanted ≡ 0) ⊎ (t .wanted ≡ wantedAt (length frames))
+
+-- what holds of every turn u after a turn t: what is wanted is at most 65,520 bytes, and either nothing is wanted, or frames were counted and there are some
+-- left to 4,000,000
+pub record Ahead (t u : LedgerTurn) : Type 0 where
+  pub standing : Standing u
+  pub size : u .wanted ≤ 65520
+  pub kept : t .ledger .seen ≤ u .ledger .seen
+  pub more : (u .wanted ≡ 0) ⊎ ((t .ledger .seen < u .ledger .seen) × (u .ledger .seen < mostFrames))
 
 -- ---- what is written
 
@@ -67,4 +83,4 @@ withReport l out = cond (possible l) (ledgerReport l ++ drop (length (ledgerRepo
 
 -- as many bytes as the report has, from the buffer that it was put into
 unfoldable pub programText : Edition → (k : ℕ) → (s out : List ℕ) → List ℕ
-programText ed k s out = take (lengthOf (programLedger ed k start s)) (withReport (programLedger ed k start s) out)
+programText ed k s out = let l = programTurn ed k start s .ledger in take (lengthOf l) (withReport l out)

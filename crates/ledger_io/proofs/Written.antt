@@ -1,18 +1,19 @@
 -- The report at the start of a buffer, and how much a turn wants. Assumes nothing.
 use mathlib.Core.Path.{_≡_, refl, sym, _∙_, subst}
 use mathlib.Core.Bool.{Bool, true, false, cond}
-use mathlib.Core.List.{List, [], _++_}
-use Prim.Native.Nat.{ℕ, _≤_}
+use mathlib.Core.Logic.{_⊎_, inl, inr}
+use mathlib.Core.List.{List, _++_}
+use Prim.Native.Nat.{ℕ, _+_, _-_, _≤_, _<_, min}
 use native.Mathlib.Omega.{arith}
-use lib.Dec.{ltb}
 use lib.ListN.{length, take, drop, length-take}
 use Rattle.frame.specs.declared.Edition.{Edition}
 use Rattle.ledger.specs.Counting.{possible}
-use Rattle.ledger.specs.Report.{ledgerReport, lengthOf, printNumber, printOf}
+use Rattle.ledger.specs.Report.{ledgerReport, lengthOf, printOf}
 use Rattle.ledger.specs.declared.Ledger.{Ledger}
 use Rattle.ledger.proofs.Reports.{length-impossible, length-possible, report-length, print-impossible, print-accepted, printed, unchanged}
-use Rattle.ledger_input.specs.Input.{wantedAt, ledgerAfter, turnAfter, withReport}
+use Rattle.ledger_input.specs.Input.{Standing, Ahead, withReport}
 use Rattle.ledger_input.specs.declared.LedgerTurn.{LedgerTurn}
+use Rattle.ledger_input.proofs.Turns.{ahead}
 use Rattle.ledger_io.specs.Reading.{TurnMade}
 
 module _ (l : Ledger) (nine : length (l .refused) ≡ 9) where
@@ -33,14 +34,17 @@ module _ (l : Ledger) (nine : length (l .refused) ≡ 9) where
           let same : v ≡ take bytes text = f ∙ unchanged l (take bytes text) (λ z. omega arith) in
           rw (same, none, p)
 
--- no turn wants more than 2,520 frames
-wanted-most : (ed : Edition) (t : LedgerTurn) (s : List ℕ) → turnAfter ed t s .wanted ≤ 65520
-unfolding turnAfter
-wanted-most ed t s = go (ltb (length s) (t .wanted))
-  where
-    go : (u : Bool) → cond u 0 (wantedAt (ledgerAfter ed t s .seen)) ≤ 65520
-    go true = omega arith
-    go false = omega arith
+-- a turn that was made gets on
+pub made-ahead : {ed : Edition} {before : LedgerTurn} {input : List ℕ} {t : LedgerTurn} → TurnMade ed before input t → Standing before → (before .wanted ≡ 0 → ⊥)
+    → Ahead before t
+made-ahead {ed} {before} {input} {t} m w some =
+    subst (Ahead before) (sym (m .told))
+    (ahead ed before (take (m .got) input) w some (omega (arith, m .most, length-take (m .got) input)))
 
-pub made-most : {ed : Edition} {before : LedgerTurn} {input : List ℕ} {t : LedgerTurn} → TurnMade ed before input t → t .wanted ≤ 65520
-made-most {ed} {before} {input} {t} m = subst (λ (u : LedgerTurn). u .wanted ≤ 65520) (sym (m .told)) (wanted-most ed before (take (m .got) input))
+-- what is left to count, and whether something is wanted, together grow fewer
+pub fewer : {t u : LedgerTurn} → (t .wanted ≡ 0 → ⊥) → Ahead t u → 4000000 - u .ledger .seen + min (u .wanted) 1 < 4000000 - t .ledger .seen + min (t .wanted) 1
+fewer {t} {u} some a = go (t .ledger .seen) (u .ledger .seen) (t .wanted) (u .wanted) some (a .kept) (a .more)
+  where
+    go : (m n v w : ℕ) → (v ≡ 0 → ⊥) → m ≤ n → (w ≡ 0) ⊎ ((m < n) × (n < 4000000)) → 4000000 - n + min w 1 < 4000000 - m + min v 1
+    go m n v w z kept (inl e) = omega arith
+    go m n v w z kept (inr p) = omega arith

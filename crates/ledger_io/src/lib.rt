@@ -38,14 +38,12 @@ fn write_report(ledger: Ledger) {
     io::write_all(STDOUT_FILENO, &text[..bytes]);
 }
 
-// The report of the whole input: turns, while something is wanted. It never takes more than 1,588.
+// The report of the whole input: turns, while something is wanted.
 pub fn run(edition: Edition) {
     let mut input = io::large_buffer();
     let mut turn = ledger_input::start();
-    let mut turns: u32 = 0;
-    while turns < 1588 && turn.wanted != 0 {
+    while turn.wanted != 0 {
         turn = next(edition, turn, &mut input);
-        turns += 1;
     }
     write_report(turn.ledger);
 }

@@ -1,19 +1,21 @@
--- `ledger_io::run` is safe and ends: each turn is one fewer of 1,588. Assumes nothing.
-use mathlib.Core.Path.{_≡_, ap}
-use Prim.Native.Nat.{_-_, _≤_}
+-- `ledger_io::run` is safe and ends: a turn after which something is wanted has counted more frames. Assumes nothing.
+use mathlib.Core.Path.{_≡_, sym, ap, subst}
+use Prim.Native.Nat.{_+_, _-_, _≤_, min}
 use native.Mathlib.Omega.{arith}
-use lib.ListN.{length}
 use borrow.Author.Needs.{needs}
+use lib.ListN.{length}
+use Rattle.ledger_input.specs.Input.{Standing, Ahead}
 use Rattle.ledger_input.specs.declared.LedgerTurn.{LedgerTurn}
-use Rattle.ledger_io.proofs.Written.{made-most}
+use Rattle.ledger_input.proofs.Turns.{begins}
+use Rattle.ledger_io.proofs.Written.{made-ahead, fewer}
 use Rattle.ledger_io.proofs.run.Statement.{statement}
 use Rattle.ledger_io.proofs.run.Tie as tie
 
 abbrev Inv-loop : tie.InvT-loop
-Inv-loop edition input₀ turn₀ turns₀ input turn turns = (length input ≡ 65536) × (turn .wanted ≤ 65520)
+Inv-loop edition input₀ turn₀ input turn = (length input ≡ 65536) × (turn .wanted ≤ 65520) × Standing turn
 
 abbrev μ-loop : tie.MeasureT-loop
-μ-loop edition input₀ turn₀ turns₀ input turn turns = 1588 - turns
+μ-loop edition input₀ turn₀ input turn = 4000000 - turn .ledger .seen + min (turn .wanted) 1
 
 large-buffer-requires : tie.Need-large-buffer-requires Inv-loop μ-loop
 large-buffer-requires c κs = search needs
@@ -22,7 +24,9 @@ start-requires : tie.Need-start-requires Inv-loop μ-loop
 start-requires c κs = search needs
 
 loop-holds : tie.Need-loop-holds Inv-loop μ-loop
-loop-holds c = let e = ap (λ (t : LedgerTurn). t .wanted) (c .start .ensures) in (search needs, omega arith)
+loop-holds c =
+    let e = ap (λ (t : LedgerTurn). t .wanted) (c .start .ensures) in
+    (search needs, omega arith, subst Standing (sym (c .start .ensures)) begins)
 
 slice-aggregate-next : tie.Need-slice-aggregate-next Inv-loop μ-loop
 slice-aggregate-next c = search needs
@@ -30,14 +34,18 @@ slice-aggregate-next c = search needs
 next-requires : tie.Need-next-requires Inv-loop μ-loop
 next-requires c κs = search needs
 
-add-turns : tie.Need-add-turns Inv-loop μ-loop
-add-turns c = search needs
-
 loop-less : tie.Need-loop-less Inv-loop μ-loop
-loop-less c = search needs
+loop-less c =
+    let made = c .before in
+    let tested = made .before .before in
+    fewer (tested .if1 .taken) (made-ahead (made .next .ensures) (tested .before .before .loop .inv .2) (tested .if1 .taken))
 
 loop-again : tie.Need-loop-again Inv-loop μ-loop
-loop-again c = (search needs, made-most (c .before .next .ensures))
+loop-again c =
+    let made = c .before in
+    let tested = made .before .before in
+    let ahead = made-ahead (made .next .ensures) (tested .before .before .loop .inv .2) (tested .if1 .taken) in
+    (search needs, ahead .size, ahead .standing)
 
 write-report-requires : tie.Need-write-report-requires Inv-loop μ-loop
 write-report-requires c κs = search needs
@@ -56,7 +64,6 @@ run-spec =
     loop-holds
     slice-aggregate-next
     next-requires
-    add-turns
     loop-less
     loop-again
     write-report-requires
