@@ -12,8 +12,9 @@ use std::hint::black_box;
 /// The two programs; the second stops after frame 999,999.
 const PROGRAMS: [&str; 2] = ["print_ledger", "list_frames"];
 
-/// How often each is run. They take turns, each first in every other one, and the middle run of each counts.
-const TURNS: usize = 21;
+/// How often each is run. They take turns, each first in every other one. Of the times the middle run of each counts, and of the ratios that of the
+/// middle turn: what else the machine does lasts longer than a turn, and so falls on both runs of it.
+const TURNS: usize = 31;
 
 /// Makes the frames of a row.
 type Make = fn(&mut Random) -> [u8; 26];
@@ -34,6 +35,15 @@ const SORTS: [(&str, Make); 3] = [
     ("a mix", mixed),
 ];
 
+/// A turn: the nanoseconds of both programs.
+fn run_both(input: &Input, turn: usize) -> [f64; 2] {
+    let mut times = [0.0; 2];
+    for which in [turn % 2, 1 - turn % 2] {
+        times[which] = input.nanoseconds(PROGRAMS[which]);
+    }
+    times
+}
+
 /// The two programs on an input of so many frames: nanoseconds a frame, and how many times as long the first takes.
 fn program_rows(count: usize) {
     println!("a ledger's report beside a listing, of {count} frames");
@@ -46,14 +56,10 @@ fn program_rows(count: usize) {
         let mut random = Random::new(10);
         let frames: Vec<u8> = (0..count).flat_map(|_| make(&mut random)).collect();
         let input = Input::new(&frames);
-        let mut times = [vec![], vec![]];
-        for turn in 0..TURNS {
-            for which in [turn % 2, 1 - turn % 2] {
-                times[which].push(input.nanoseconds(PROGRAMS[which]) / count as f64);
-            }
-        }
-        let [ledger, listing] = times.map(middle);
-        let ratio = ledger / listing;
+        let turns: Vec<[f64; 2]> = (0..TURNS).map(|turn| run_both(&input, turn)).collect();
+        let of_turns = |what: &dyn Fn(&[f64; 2]) -> f64| middle(turns.iter().map(what).collect());
+        let [ledger, listing] = [0, 1].map(|which| of_turns(&|times| times[which] / count as f64));
+        let ratio = of_turns(&|times| times[0] / times[1]);
         println!("{name:<28} {ledger:>12.1} {listing:>12.1} {ratio:>8.3}");
     }
 }
