@@ -74,7 +74,7 @@ enum gvz_refusal {
     GVZ_REFUSAL_IMPOSSIBLE_LEDGER = 18,
     /* the ledger has 4,000,000 frames */
     GVZ_REFUSAL_LEDGER_FULL = 19,
-    /* a buffer for a report has another size than the report */
+    /* a buffer for a ledger's report has another size than the report */
     GVZ_REFUSAL_BUFFER_SIZE = 27
 };
 

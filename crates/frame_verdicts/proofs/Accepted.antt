@@ -1,11 +1,11 @@
 -- An accepted frame for each number of repaired places. Assumes nothing.
 use mathlib.Core.Path.{_≡_, refl, ap, _∙_}
 use mathlib.Core.Bool.{Bool, true, false}
-use mathlib.Core.List.{List, [], _∷_, _++_}
+use mathlib.Core.List.{List, _++_}
 use Prim.Native.Nat.{ℕ, zero, suc, _+_, _-_, _≤_}
 use native.Mathlib.Omega.{arith}
 use lib.ListN.{length, replicate, length-append, length-replicate}
-use Rattle.bits.specs.Bits.{digit, Bytes}
+use Rattle.bits.specs.Bits.{digit}
 use Rattle.bits.specs.Refusal.{firstRefusal}
 use Rattle.bits.specs.Segment.{freeWidths}
 use Rattle.bits.proofs.Bits.{bytes-Bytes}
@@ -16,14 +16,12 @@ use Rattle.dsc.proofs.Weight.{weight-zeros, weight-append}
 use Rattle.frame.specs.Identification.{classOf}
 use Rattle.frame.specs.Body.{row, layout}
 use Rattle.frame.specs.Fields.{fieldWidths, scatter}
-use Rattle.frame.specs.Read.{judgeOf}
 use Rattle.frame.specs.Write.{Legal, recordRefusal}
 use Rattle.frame.specs.Worked.{areaRecord}
 use Rattle.frame.specs.Promises.{hitFrame}
 use Rattle.frame.specs.declared.Edition.{Edition}
 use Rattle.frame.specs.declared.Edition.the-variants.{First, AreaSafety}
 use Rattle.frame.specs.declared.Tuner.the-variants.{None}
-use Rattle.frame.specs.declared.Verdict.{Verdict}
 use Rattle.frame.proofs.Promises.{demand2}
 use Rattle.frame_verdicts.specs.Promises.{JudgedAs, verdictAccepted}
 

@@ -1,17 +1,15 @@
 -- The promises hold. Assumes nothing.
-use mathlib.Core.Path.{_≡_, refl, sym, ap, _∙_}
+use mathlib.Core.Path.{_≡_}
 use mathlib.Core.Logic.{_≢_}
 use mathlib.Core.List.{List}
 use Prim.Native.Nat.{ℕ, _≤_}
-use native.Mathlib.Omega.{arith}
 use borrow.Author.Tests.{ne-eqb}
 use Rattle.dsc.specs.Marks.{unmarked}
 use Rattle.frame.specs.Read.{refusalBy, placesBy, judgeBy, judgeOf}
 use Rattle.frame.specs.declared.Edition.{Edition}
-use Rattle.frame.specs.declared.Verdict.{Verdict}
 use Rattle.frame.proofs.Verdicts.{refusal-small, places-small}
 use Rattle.frame_verdicts.specs.Promises.{EveryVerdict}
-use Rattle.frame_verdicts.proofs.Refused.{verdict-refused, refused-some}
+use Rattle.frame_verdicts.proofs.Refused.{refused-some}
 use Rattle.frame_verdicts.proofs.Accepted.{accepted-some}
 
 module _ (ed : Edition) (f : List ℕ) where

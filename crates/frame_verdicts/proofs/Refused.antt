@@ -1,12 +1,11 @@
 -- A frame for each refusal. Assumes nothing.
-use mathlib.Core.Path.{_≡_, refl, sym, ap, _∙_}
+use mathlib.Core.Path.{_≡_, refl, ap, _∙_}
 use mathlib.Core.Bool.{Bool, true, false, not, _&&_, and-eq-true-iff}
-use mathlib.Core.Logic.{_≢_}
 use mathlib.Core.List.{List, [], _∷_, _++_}
 use Prim.Native.Nat.{ℕ, zero, suc, _+_, _-_, _≤_, _<_}
 use native.Mathlib.Omega.{arith}
 use lib.Dec.{eqb, ltb}
-use lib.ListN.{length, replicate, getD}
+use lib.ListN.{length, replicate}
 use borrow.Author.Tests.{ne-eqb, ltb-true, eqb-true, eqb-false}
 use Rattle.bits.specs.Bits.{digit, odd, value, bits, bitsOf, bytes, Bytes}
 use Rattle.bits.specs.Field.{fieldAt}
@@ -14,7 +13,7 @@ use Rattle.bits.specs.Refusal.{firstRefusal}
 use Rattle.bits.specs.Layout.{unpack}
 use Rattle.bits.specs.Segment.{fixedHold, widths, free, freeWidths}
 use Rattle.bits.proofs.Computed.{allBelow}
-use Rattle.bits.proofs.Refusal.{refusal-here, refusal-later, refusal-append-given, refusal-append-none}
+use Rattle.bits.proofs.Refusal.{refusal-here, refusal-append-given, refusal-append-none}
 use Rattle.gf2.specs.Polynomial.{add, scale, remainder, poly, member}
 use Rattle.crc.specs.Crc.{crc, crc10}
 use Rattle.dsc.specs.Code.{powers, generatorLow, allZero, isCodeWord}

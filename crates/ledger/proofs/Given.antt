@@ -5,17 +5,17 @@ use mathlib.Core.List.{List, [], _∷_, _++_, map}
 use Prim.Native.Nat.{ℕ, zero, suc, _+_, _-_, _*_, _≤_, _<_, min}
 use native.Mathlib.Omega.{arith}
 use lib.Dec.{eqb, leb}
-use lib.ListN.{length, getD, replicate, length-append, length-replicate}
-use borrow.Author.Tests.{eq-eqb, ne-eqb, eqb-true, eqb-false, le-leb, lt-leb, leb-true, leb-false}
+use lib.ListN.{length, getD, length-append}
+use borrow.Author.Tests.{ne-eqb, eqb-true, eqb-false, le-leb, lt-leb, leb-true, leb-false}
 use Rattle.bits.specs.Bits.{digit, Bytes}
 use Rattle.bits.specs.Layout.{sum}
 use Rattle.frame.specs.declared.Edition.{Edition}
 use Rattle.frame.specs.declared.Verdict.{Verdict}
 use Rattle.frame_verdicts.specs.Promises.{JudgedAs, verdictRefused, verdictAccepted}
 use Rattle.frame_verdicts.proofs.Promises.{every-verdict}
-use Rattle.ledger.specs.Counting.{Frame, verdictOn, framesWith, placesCounted, placesRepaired, refusals, ledgerOf, mostFrames, possible, Each, Possible}
+use Rattle.ledger.specs.Counting.{Frame, framesWith, placesCounted, placesRepaired, refusals, ledgerOf, possible, Each, Possible}
 use Rattle.ledger.specs.declared.Ledger.{Ledger}
-use Rattle.ledger.proofs.Possible.{Counts, possible-counts}
+use Rattle.ledger.proofs.Possible.{possible-counts}
 use Rattle.ledger.proofs.Rows.{row-all}
 use Rattle.ledger.proofs.Lists.{upFrom, with-append, places-append}
 

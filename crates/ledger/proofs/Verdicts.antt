@@ -1,10 +1,8 @@
 -- A frame more in a ledger, accepted or refused. Only this file looks into that. Assumes nothing.
-use mathlib.Core.Path.{_≡_, sym, ap, _∙_}
+use mathlib.Core.Path.{_≡_, sym}
 use mathlib.Core.Bool.{Bool, true, false, cond}
-use mathlib.Core.List.{List}
 use Prim.Native.Nat.{ℕ, _+_, _-_}
 use lib.Dec.{eqb}
-use lib.ListN.{getD, set}
 use borrow.Author.Tests.{eq-eqb, ne-eqb}
 use Rattle.frame.specs.declared.Verdict.{Verdict}
 use Rattle.ledger.specs.Counting.{placesCounted, oneMoreAt, withVerdict}

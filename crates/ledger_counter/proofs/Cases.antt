@@ -1,8 +1,8 @@
 -- The ways out of `count`, and a frame of an input more. Assumes nothing.
-use mathlib.Core.Path.{_≡_, refl, sym, ap, ap₂, _∙_, subst}
-use mathlib.Core.Bool.{Bool, true, false, cond, not}
-use mathlib.Core.List.{List, [], _∷_}
-use Prim.Native.Nat.{ℕ, suc, _+_, _-_, _≤_, _<_, min}
+use mathlib.Core.Path.{_≡_, sym, ap, ap₂, _∙_, subst}
+use mathlib.Core.Bool.{Bool, true, false, not}
+use mathlib.Core.List.{List}
+use Prim.Native.Nat.{ℕ, _+_, _-_, _≤_, _<_, min}
 use native.Mathlib.Omega.{arith}
 use lib.ListN.{length, take, drop}
 use borrow.Author.Tests.{not-true, not-false}
@@ -13,7 +13,7 @@ use Rattle.listing.specs.Lines.{pieceSize, pieceCount}
 use Rattle.listing.specs.declared.Pieces.the-variants.{Frames}
 use Rattle.listing.proofs.Counts.{count-none, count-next}
 use Rattle.listing.proofs.Cuts.{part-take, part-drop}
-use Rattle.ledger.specs.Counting.{Frame, verdictOn, mostFrames, possible, withVerdict, countOf, countedIn}
+use Rattle.ledger.specs.Counting.{mostFrames, possible, withVerdict, countOf, countedIn}
 use Rattle.ledger.specs.declared.Ledger.{Ledger}
 use Rattle.ledger.specs.declared.LedgerAnswer.{LedgerAnswer}
 use Rattle.ledger.proofs.Lists.{number-most}

@@ -309,7 +309,7 @@ pub fn ledger_length(ledger: &[u64]) -> u32 {
     unsafe { archive::gvz_ledger_length(ledger.as_ptr(), ledger.len()) }
 }
 
-/// The number; `ledger` has 12 values and `text` as many bytes as the report, else the number is 27.
+/// The number: 18 for an impossible ledger, then 27 unless `text` has as many bytes as the report; `ledger` has 12 values.
 pub fn ledger_print(ledger: &[u64], text: &mut [u8]) -> u32 {
     unsafe {
         archive::gvz_ledger_print(ledger.as_ptr(), ledger.len(), text.as_mut_ptr(), text.len())

@@ -47,7 +47,7 @@ refusals! {
     HeaderBits = 15, "a header bit fixed at 1 is 0, or a reception state is 11";
     ImpossibleLedger = 18, "no list of at most 4,000,000 frames gives the ledger, or the bytes are not the report of a ledger that one gives";
     LedgerFull = 19, "the ledger has 4,000,000 frames";
-    BufferSize = 27, "a buffer for a report has another size than the report";
+    BufferSize = 27, "a buffer for a ledger's report has another size than the report";
 }
 
 impl Refusal {

@@ -180,7 +180,7 @@ fn numbers_of(text: &[u8]) -> Option<[u64; NUMBERS]> {
     Some(numbers)
 }
 
-/// "a plain decimal number": digits only, at least one, and no 0 before another. Nothing for a number past 2^64, which no possible ledger has.
+/// "a plain decimal number": digits only, at least one, and no 0 before another. Nothing for a number from 2^64 on, which no possible ledger has.
 fn decimal(digits: &[u8]) -> Option<u64> {
     if digits.is_empty() || (digits.len() > 1 && digits[0] == b'0') {
         return None;

@@ -2,7 +2,6 @@
 use mathlib.Core.Path.{ap}
 use borrow.Author.Needs.{needs}
 use Rattle.ledger.specs.declared.Ledger.{Ledger}
-use Rattle.ledger_input.specs.declared.LedgerTurn.{LedgerTurn}
 use Rattle.ledger_input.proofs.start.Statement.{statement}
 use Rattle.ledger_input.proofs.start.Tie as tie
 

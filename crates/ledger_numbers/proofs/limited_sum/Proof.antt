@@ -1,9 +1,9 @@
 -- `ledger_numbers::limited_sum` meets its contract. Assumes nothing.
-use mathlib.Core.Path.{_≡_, ap, _∙_}
-use Prim.Native.Nat.{ℕ, _-_, _≤_}
+use mathlib.Core.Path.{_≡_, ap}
+use Prim.Native.Nat.{_-_, _≤_}
 use native.Mathlib.Omega.{arith}
 use borrow.Author.Needs.{needs}
-use lib.ListN.{length, take, getD}
+use lib.ListN.{take}
 use lib.Seq.{take-all}
 use Rattle.bits.specs.Layout.{sum}
 use Rattle.bits.proofs.Layouts.{sum-take, sum-next}
