@@ -27,6 +27,10 @@ number-most (ed, f) = every-verdict ed .number-most f
 repaired-most : (f : Frame) → verdictOn f .repaired ≤ 8
 repaired-most (ed, f) = every-verdict ed .places-most f
 
+-- three places of an accepted frame, and none of a refused one
+three-places : (placesCounted (record { number = 0; repaired = 3 }) ≡ 3) × (placesCounted (record { number = 4; repaired = 3 }) ≡ 0)
+three-places = (refl, refl)
+
 places-most : (f : Frame) → placesCounted (verdictOn f) ≤ 8 * digit (eqb (verdictOn f .number) 0)
 unfolding digit
 places-most f = go (eqb (verdictOn f .number) 0)

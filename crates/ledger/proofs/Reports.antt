@@ -51,6 +51,15 @@ ninth : getD labels 9 [] ≡ 114 ∷ 101 ∷ 102 ∷ 117 ∷ 115 ∷ 101 ∷ 100
 unfolding labels
 ninth = refl
 
+-- the numbers in their order, there and back
+in-order : numbersOf (record { seen = 1; refused = 2 ∷ []; accepted = 3; repaired = 4 }) ≡ 1 ∷ 2 ∷ 3 ∷ 4 ∷ []
+unfolding numbersOf
+in-order = refl
+
+taken-in-order : ledgerFrom (0 ∷ 1 ∷ 2 ∷ 3 ∷ 4 ∷ 5 ∷ 6 ∷ 7 ∷ 8 ∷ 9 ∷ 10 ∷ 11 ∷ []) .refused ≡ 1 ∷ 2 ∷ 3 ∷ 4 ∷ 5 ∷ 6 ∷ 7 ∷ 8 ∷ 9 ∷ []
+unfolding ledgerFrom
+taken-in-order = refl
+
 -- one frame seen, and none refused or accepted
 impossible-number : parsedFrom (some (1 ∷ [])) .number ≡ 18
 unfolding ledgerFrom possible sum
