@@ -21,7 +21,7 @@ pub struct LedgerAnswer {
 
 impl Ledger {
     // Before the first frame.
-    pub fn new() -> Self
+    pub fn fresh() -> Self
         ensures { λ r. ⌜ r ≡ fresh ⌝ }
     {
         Ledger {
@@ -36,6 +36,6 @@ impl Ledger {
     pub fn emptied(self) -> Self
         ensures { λ r. ⌜ r ≡ fresh ⌝ }
     {
-        Ledger::new()
+        Ledger::fresh()
     }
 }

@@ -29,7 +29,7 @@ pub fn start() -> LedgerTurn
     ensures { λ r. ⌜ r ≡ start ⌝ }
 {
     LedgerTurn {
-        ledger: Ledger::new(),
+        ledger: Ledger::fresh(),
         wanted: 65520,
     }
 }

@@ -67,7 +67,7 @@ fn not_report() -> LedgerAnswer
 {
     LedgerAnswer {
         number: 18,
-        ledger: Ledger::new(),
+        ledger: Ledger::fresh(),
     }
 }
 

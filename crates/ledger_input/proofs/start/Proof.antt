@@ -5,11 +5,11 @@ use Rattle.ledger.specs.declared.Ledger.{Ledger}
 use Rattle.ledger_input.proofs.start.Statement.{statement}
 use Rattle.ledger_input.proofs.start.Tie as tie
 
-new-requires : tie.Need-new-requires
-new-requires c κs = search needs
+fresh-requires : tie.Need-fresh-requires
+fresh-requires c κs = search needs
 
 returns : tie.Need-returns
-returns c = ap (λ (l : Ledger). record { ledger = l; wanted = 65520 }) (c .new .ensures)
+returns c = ap (λ (l : Ledger). record { ledger = l; wanted = 65520 }) (c .fresh .ensures)
 
 pub start-spec : {M : Type 1} → statement M
-start-spec = tie.close (tie.spec new-requires returns)
+start-spec = tie.close (tie.spec fresh-requires returns)
