@@ -10,7 +10,7 @@ pub fn text() -> [u8; 113]
     *b"seen refused 1 refused 2 refused 3 refused 4 refused 5 refused 6 refused 7 refused 8 refused 9 accepted repaired "
 }
 
-// Where label i begins, and where the last one ends.
+// Where label i begins, and where the last one ends. It requires that there is such a line: printer and parser go through the 12 of them.
 pub fn start(i: usize) -> usize
     requires { ⌜ i ≤ 12 ⌝ }
     ensures { λ r. ⌜ r ≡ labelStart i ⌝ }
