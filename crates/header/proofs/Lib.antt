@@ -1,7 +1,5 @@
 pub mod Computed
 pub mod Fields
-pub mod Fills
-pub mod Places
 pub mod Sealed
 pub mod Parts
 pub mod Headers

@@ -10,14 +10,12 @@ use borrow.Author.Tests.{eq-eqb, ne_eqb}
 use Rattle.bits.specs.Bits.{Bytes}
 use Rattle.header.specs.Fields.{Sized}
 use Rattle.header.specs.Header.{frontIn, extensionIn, headerIn, headerRefusal, no_header, headerReadOf, headerOf, Legal, recordRefusal, writeNumber, writeOf}
-use Rattle.header.specs.Promises.{Demand2, ExtensionArea}
+use Rattle.header.specs.Promises.{Demand2}
 use Rattle.header.specs.declared.Header.{Header}
 use Rattle.header.specs.declared.HeaderReading.{HeaderReading}
 use Rattle.header.proofs.Computed.{header-order, record-order}
 use Rattle.header.proofs.Fields.{sized}
-use Rattle.header.proofs.Fills.{fills-apart}
 use Rattle.header.proofs.Headers as headers
-use Rattle.header.proofs.Places as places
 
 -- an accepted header is read as it stands
 read-in : (h : List ℕ) → headerRefusal h ≡ 0 → headerReadOf h ≡ record { number = 0; header = headerIn h }
@@ -44,8 +42,8 @@ unfolding headerReadOf frontIn extensionIn no_header
 read-sized h = go (eqb (headerRefusal h) 0)
   where
     go : (t : Bool) → Sized (cond t (headerIn h) no_header)
-    go true = sized _ _ _
-    go false = sized _ [] []
+    go true = sized _ _
+    go false = sized [] []
 
 written_apart : (r s : Header) → Sized r → Sized s → Legal r → Legal s → headerOf r ≡ headerOf s → r ≡ s
 written_apart r s zr zs lr ls e = ap (λ (x : HeaderReading). x.header) (sym (comes_back r zr lr) ∙ ap headerReadOf e ∙ comes_back s zs ls)
@@ -78,20 +76,4 @@ demand2 =
       legal-exactly = legal-exactly;
       written = written;
       unchanged = unchanged;
-    }
-
-pub extension-area : ExtensionArea
-extension-area =
-    record {
-      fills-apart = fills-apart;
-      allowed-accepted = places.allowed-accepted;
-      accepted-allowed = places.accepted-allowed;
-      otherwise = places.otherwise;
-      ones-unused = places.ones-unused;
-      unused-ones = places.unused-ones;
-      split-layout = places.split-layout;
-      split-placed = places.split-placed;
-      one-zero = places.one-zero;
-      unused-free = places.unused-free;
-      fifteen = places.fifteen;
     }

@@ -1,8 +1,6 @@
 -- A header's fields, in the order of the layout. Assumes nothing.
-use Rattle.std.specs.Prelude.{◌≡◌, List, [], ◌∷◌, ◌++◌, ℕ, zero, suc, ◌+◌, length, get_or, replicate}
+use Rattle.std.specs.Prelude.{◌≡◌, List, [], ◌∷◌, ◌++◌, ℕ, zero, suc, ◌+◌, length, get_or}
 use Rattle.header.specs.declared.Front.{Front}
-use Rattle.header.specs.declared.Fill.{Fill}
-use Rattle.header.specs.declared.SplitFields.{SplitFields}
 use Rattle.header.specs.declared.Extension.{Extension}
 use Rattle.header.specs.declared.Header.{Header}
 
@@ -41,35 +39,12 @@ frontOf v =
       slots = run v 67 1 52;
     }
 
--- the 59 fields of the layout of annex 7 after the AC bits
-unfoldable pub splitFields : SplitFields → List ℕ
-splitFields s = s.kinds ∷ s.group ∷ s.carriers ∷ s.order ∷ s.count ∷ s.position ∷ s.carried
-
--- all of them 0, as where the extension is unused
-unfoldable pub noSplit : SplitFields
-noSplit = record { kinds = 0; group = 0; carriers = 0; order = 0; count = 0; position = 0; carried = replicate 53 0 }
-
--- the 85 fields of the extension
+-- the 26 fields of the extension
 unfoldable pub extensionFields : Extension → List ℕ
-extensionFields e = e.ac ++ splitFields e.split
+extensionFields e = e.ac
 
--- the extension with this fill that has these fields
-unfoldable pub extensionOf : Fill → List ℕ → Extension
-extensionOf f v =
-    record {
-      ac = run v 0 1 26;
-      fill = f;
-      split =
-          record {
-            kinds = get_or v 26 0;
-            group = get_or v 27 0;
-            carriers = get_or v 28 0;
-            order = get_or v 29 0;
-            count = get_or v 30 0;
-            position = get_or v 31 0;
-            carried = run v 32 1 53;
-          };
-    }
+unfoldable pub extensionOf : List ℕ → Extension
+extensionOf v = record { ac = run v 0 1 26 }
 
 -- the arrays have their lengths, as every header in the box has
 pub record Sized (r : Header) : Type 0 where
@@ -79,4 +54,3 @@ pub record Sized (r : Header) : Type 0 where
   pub states : length r.front.states ≡ 15
   pub slots : length r.front.slots ≡ 52
   pub ac : length r.extension.ac ≡ 26
-  pub carried : length r.extension.split.carried ≡ 53

@@ -1,4 +1,4 @@
--- Reading and writing a header (document 01, "The cable header" and "When the box says no"; document 02, c). Assumes nothing.
+-- Reading and writing a header (document 01, "The cable header" and "When the box says no"). Assumes nothing.
 use Rattle.std.specs.Prelude.{◌≡◌, Bool, cond, not, ◌||◌, List, [], ◌∷◌, ◌++◌, ℕ, eqb, length, take, drop}
 use Rattle.bits.specs.Bits.{bits, bytes}
 use Rattle.bits.specs.Segment.{packSegments, unpackSegments}
@@ -6,9 +6,8 @@ use Rattle.bits.specs.Refusal.{firstRefusal}
 use Rattle.crc.specs.Crc.{crc32}
 use Rattle.header.specs.Layout.{frontLayout, extensionLayout}
 use Rattle.header.specs.Fields.{frontFields, frontOf, extensionFields, extensionOf}
-use Rattle.header.specs.Tests.{tooWide, packetSyncByteWrong, crcWrong, formUnknown, stateWrong, slotBitWrong, fillBits, fillOf, layoutBitWrong, extensionWrong}
+use Rattle.header.specs.Tests.{tooWide, packetSyncByteWrong, crcWrong, formUnknown, stateWrong, slotBitWrong, extensionWrong}
 use Rattle.header.specs.declared.Front.{Front}
-use Rattle.header.specs.declared.Fill.TheVariants.{Unused}
 use Rattle.header.specs.declared.Extension.{Extension}
 use Rattle.header.specs.declared.Header.{Header}
 use Rattle.header.specs.declared.HeaderReading.{HeaderReading}
@@ -20,9 +19,7 @@ unfoldable pub frontIn : List ℕ → Front
 frontIn h = frontOf (unpackSegments frontLayout (bits (take 99 h)))
 
 unfoldable pub extensionIn : List ℕ → Extension
-extensionIn h =
-    let f = fillOf (fillBits h) in
-    extensionOf f (unpackSegments (extensionLayout f) (bits (take 85 (drop 99 h))))
+extensionIn h = extensionOf (unpackSegments extensionLayout (bits (take 85 (drop 99 h))))
 
 abbrev pub headerIn : List ℕ → Header
 headerIn h = record { front = frontIn h; extension = extensionIn h }
@@ -34,8 +31,7 @@ headerTests h =
     ∷ (12, packetSyncByteWrong (frontIn h))
     ∷ (13, crcWrong h)
     ∷ (14, formUnknown (frontIn h))
-    ∷ (15, slotBitWrong h || stateWrong (frontIn h))
-    ∷ (16, layoutBitWrong h || extensionWrong (frontIn h) (extensionIn h))
+    ∷ (15, slotBitWrong h || (stateWrong (frontIn h) || extensionWrong h))
     ∷ []
 
 unfoldable pub headerRefusal : List ℕ → ℕ
@@ -43,7 +39,7 @@ headerRefusal h = firstRefusal (headerTests h)
 
 -- a header of zeros, which stands beside a refusal
 unfoldable pub no_header : Header
-no_header = record { front = frontOf []; extension = extensionOf Unused [] }
+no_header = record { front = frontOf []; extension = extensionOf [] }
 
 -- what `read` answers
 unfoldable pub headerReadOf : List ℕ → HeaderReading
@@ -55,15 +51,11 @@ headerReadOf h = record { number = headerRefusal h; header = cond (eqb (headerRe
 unfoldable pub sealed : List ℕ → List ℕ
 sealed s = s ++ bytes 4 (crc32 (bits (drop 4 s)))
 
--- a header's bytes: 0 to 98, 99 to 183, and all
-abbrev pub frontBytes : Front → List ℕ
-frontBytes f = bytes 99 (packSegments frontLayout (frontFields f))
-
-abbrev pub extensionBytes : Extension → List ℕ
-extensionBytes e = bytes 85 (packSegments (extensionLayout e.fill) (extensionFields e))
-
+-- the header's bytes
 unfoldable pub headerOf : Header → List ℕ
-headerOf r = sealed (frontBytes r.front ++ extensionBytes r.extension)
+headerOf r =
+    sealed
+    (bytes 99 (packSegments frontLayout (frontFields r.front)) ++ bytes 85 (packSegments extensionLayout (extensionFields r.extension)))
 
 -- what a record is tested for, in order
 abbrev pub recordTests : Header → List (ℕ × Bool)
@@ -72,7 +64,6 @@ recordTests r =
     ∷ (12, packetSyncByteWrong r.front)
     ∷ (14, formUnknown r.front)
     ∷ (15, stateWrong r.front)
-    ∷ (16, extensionWrong r.front r.extension)
     ∷ []
 
 -- its refusal, 0 where it is legal

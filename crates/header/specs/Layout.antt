@@ -1,8 +1,6 @@
 -- The layout of a header (document 01, "The cable header"; notice 311, source document 002): 1,504 bits with the CRC. Assumes nothing.
-use Rattle.std.specs.Prelude.{List, [], ◌∷◌, ◌++◌, replicate}
-use Rattle.bits.specs.Segment.{Segment, field, fixedOnes, fixedZeros}
-use Rattle.header.specs.declared.Fill.{Fill}
-use Rattle.header.specs.declared.Fill.TheVariants.{Unused, Split}
+use Rattle.std.specs.Prelude.{List, ◌∷◌, ◌++◌, replicate}
+use Rattle.bits.specs.Segment.{Segment, field, fixedOnes}
 
 -- bytes 0 to 98
 unfoldable pub frontLayout : List Segment
@@ -18,17 +16,8 @@ frontLayout =
     -- slots 2 to 53 (annex 6)
     ∷ replicate 52 (field 4))))
 
--- Bytes 99 to 183, the extension (document 02, c; 002's amended annex 7). Document 01: "first 204 bits for the AC frame, all 1 when none is sent". They are 25
--- bytes and 4 bits.
-unfoldable pub acLayout : List Segment
-acLayout = replicate 25 (field 8) ++ field 4 ∷ []
-
--- the other 476 bits, by their fill; each row has the 59 fields of the layout
-unfoldable pub fillLayout : Fill → List Segment
--- "all ones (unused)"; it "leaves no layout field free": each of the 59 has no bit
-fillLayout Unused = fixedOnes 4 ∷ (replicate 59 (fixedOnes 8) ++ replicate 59 (field 0))
--- "0000, 15 stream kinds (0 TLV, 1 TS), 0, carrier group 8, number of carriers 8, carrier order 8, frame count 4, frame position 4, 424 more"
-fillLayout Split = fixedZeros 4 ∷ field 15 ∷ fixedZeros 1 ∷ field 8 ∷ field 8 ∷ field 8 ∷ field 4 ∷ field 4 ∷ replicate 53 (field 8)
-
-unfoldable pub extensionLayout : Fill → List Segment
-extensionLayout f = acLayout ++ fillLayout f
+-- bytes 99 to 183. Document 01: "first 204 bits for the AC frame, all 1 when none is sent; the other 476 bits are fixed at 1." It follows the earlier
+-- column of 002, which has no annex on the extension: note 13 there puts the AC symbols into the first 204 bits, and note 11 sets all 680 bits to 1 where
+-- the extension is not used. The amended annex 7 lays the 476 bits out otherwise; document 02's request c takes that layout in.
+unfoldable pub extensionLayout : List Segment
+extensionLayout = replicate 25 (field 8) ++ field 4 ∷ fixedOnes 4 ∷ replicate 59 (fixedOnes 8)

@@ -24,37 +24,10 @@ pub struct Front {
     pub slots: [u64; 52],
 }
 
-// How the 476 bits of the extension after the AC bits are filled.
-#[derive(Drop)]
-pub enum Fill {
-    // all of them 1
-    Unused,
-    // as annex 7 lays them out, for streams that are split over several carriers
-    Split,
-}
-
-// What that layout holds after the AC bits; all 0 where the extension is unused.
-#[derive(Drop)]
-pub struct SplitFields {
-    // the kinds of streams 1 to 15, a bit each and stream 1 highest: 0 TLV packets, 1 TS packets
-    pub kinds: u64,
-    // carrier group, number of its carriers, place of this carrier among them
-    pub group: u64,
-    pub carriers: u64,
-    pub order: u64,
-    // how many multiplex frames a super frame has, and which of them this is, from 0
-    pub count: u64,
-    pub position: u64,
-    // 424 bits that are carried as they stand
-    pub carried: [u64; 53],
-}
-
-// The extension, 85 bytes: the 204 AC bits as 25 bytes and then 4 bits, and the 476 bits after them.
+// The extension, 85 bytes: the 204 AC bits as 25 bytes and then 4 bits.
 #[derive(Drop)]
 pub struct Extension {
     pub ac: [u64; 26],
-    pub fill: Fill,
-    pub split: SplitFields,
 }
 
 // A header without its fixed bits and its CRC, which are derived.

@@ -23,18 +23,6 @@ fn zeros52() -> [u64; 52]
     [0; 52]
 }
 
-pub fn zeros53() -> [u64; 53]
-    ensures { result ≡ replicate 53 0 }
-{
-    [0; 53]
-}
-
-pub fn zeros85() -> [u64; 85]
-    ensures { result ≡ replicate 85 0 }
-{
-    [0; 85]
-}
-
 pub fn zeros119() -> [u64; 119]
     ensures { result ≡ replicate 119 0 }
 {
@@ -80,24 +68,6 @@ pub fn run52(v: &[u64], k: usize, d: usize) -> [u64; 52]
     ensures { result ≡ run v.now k d 52 }
 {
     let mut out = zeros52();
-    take_run(v, k, d, &mut out);
-    out
-}
-
-pub fn run53(v: &[u64], k: usize, d: usize) -> [u64; 53]
-    requires { (k + d * 53 < length v.now + d) × (d < 65536) × (length v.now < 65536) }
-    ensures { result ≡ run v.now k d 53 }
-{
-    let mut out = zeros53();
-    take_run(v, k, d, &mut out);
-    out
-}
-
-pub fn run85(v: &[u64], k: usize, d: usize) -> [u64; 85]
-    requires { (k + d * 85 < length v.now + d) × (d < 65536) × (length v.now < 65536) }
-    ensures { result ≡ run v.now k d 85 }
-{
-    let mut out = zeros85();
     take_run(v, k, d, &mut out);
     out
 }

@@ -5,20 +5,49 @@ use mathlib.Core.List.{List, [], ◌∷◌, ◌++◌, append_assoc}
 use Prim.Native.Nat.{ℕ, ◌+◌, ◌*◌, ◌≤◌}
 use native.Mathlib.Omega.{arith}
 use lib.ListN.{length, take, drop, replicate, length-append, length-drop, take-append-drop}
-use lib.Seq.{length-take-le, take_at, take-add}
+use lib.Seq.{length-take-le, take_at, take-add, drop-append-le}
 use Rattle.bits.specs.Bits.{odd, value, bits_of, bits, bytes, Bytes}
-use Rattle.bits.specs.Layout.{pack, unpack, sum}
+use Rattle.bits.specs.Layout.{pack, unpack, sum, Layout}
 use Rattle.bits.specs.Segment.{freeWidths}
-use Rattle.bits.proofs.Bits.{length-bytes, length-bits, bitsOf-value}
+use Rattle.bits.proofs.Bits.{length-bytes, length-bits, bits-take, bitsOf-value}
+use Rattle.bits.proofs.Layouts.{length-pack, layoutb-layout}
 use Rattle.header.specs.Header.{sealed}
-use Rattle.header.specs.Layout.{acLayout}
+use Rattle.header.specs.Layout.{extensionLayout}
 use Rattle.header_laying.specs.Laying.{withAc}
+use Rattle.header.proofs.Parts.{written-part}
 use Rattle.header_tables.specs.AcTables.{acWidths, acOnes}
-use Rattle.header_tables.proofs.AcRoom.{ac-sum}
-use Rattle.extension_writer.specs.AcBits.{withFirst}
+use Rattle.header_inserter.specs.AcBits.{withFirst}
+
+-- ---- the widths
+
+pub ac-sum : sum acWidths ≡ 204
+unfolding extensionLayout freeWidths sum
+ac-sum = refl
+
+layout-26 : Layout acWidths 26
+unfolding extensionLayout freeWidths sum
+layout-26 = layoutb-layout acWidths 26 refl
+
+layout-89 : Layout acWidths 89
+unfolding extensionLayout freeWidths sum
+layout-89 = layoutb-layout acWidths 89 refl
+
+ac-count : length acWidths ≡ 26
+unfolding extensionLayout freeWidths
+ac-count = refl
+
+-- a frame and the part that starts at byte 99 have room for them
+room : (n : ℕ) → Layout acWidths n → (ws : List ℕ) (k m : ℕ) → ws ≡ acWidths → k ≡ n → m ≡ 26 → Layout ws k × (m ≡ length ws)
+room n l ws k m e p q = (subst (λ (x : List ℕ). Layout x k) (sym e) (subst (Layout acWidths) (sym p) l), q ∙ sym (ap length e ∙ ac-count))
+
+pub frame-room : (ws : List ℕ) (k m : ℕ) → ws ≡ acWidths → k ≡ 26 → m ≡ 26 → Layout ws k × (m ≡ length ws)
+frame-room = room 26 layout-26
+
+pub part_room : (ws : List ℕ) (k m : ℕ) → ws ≡ acWidths → k ≡ 89 → m ≡ 26 → Layout ws k × (m ≡ length ws)
+part_room = room 89 layout-89
 
 pub all_ones : pack acWidths acOnes ≡ replicate 204 true
-unfolding acLayout freeWidths acOnes pack bits_of odd
+unfolding extensionLayout freeWidths acOnes pack bits_of odd
 all_ones = refl
 
 -- ---- values read and packed again are the first bits
@@ -35,6 +64,24 @@ pack-first (w ∷ ws) bs h =
 pub frame-first : (f : List ℕ) → length f ≡ 26 → pack acWidths (unpack acWidths (bits f)) ≡ take 204 (bits f)
 frame-first f e =
     pack-first acWidths (bits f) (omega (arith, length-bits f, ac-sum)) ∙ ap (λ (n : ℕ). take n (bits f)) ac-sum
+
+-- ---- the part that starts at byte 99
+
+-- after its first 204 bits are written
+pub part-written : (ws vs s t : List ℕ) → ws ≡ acWidths → length s ≡ 89 → length t ≡ length s → Bytes s → Bytes t
+    → bits t ≡ pack ws vs ++ drop (sum ws) (bits s) → t ≡ withFirst (pack acWidths vs) s
+part-written ws vs s t w ls lt bs bt q =
+    let e : bits t ≡ pack acWidths vs ++ drop (sum acWidths) (bits s) = q ∙ ap (λ (x : List ℕ). pack x vs ++ drop (sum x) (bits s)) w in
+    let a = pack acWidths vs in
+    let p = bits (take 85 s) in
+    let lp : length p ≡ 680 = length-bits (take 85 s) ∙ ap (8 *◌) (length-take-le 85 s (omega arith)) in
+    let la : length a ≡ 204 = length-pack acWidths vs ∙ ac-sum in
+    let split : drop 204 (bits s) ≡ drop 204 p ++ drop 680 (bits s) =
+    ap (drop 204) (sym (take-append-drop 680 (bits s)) ∙ ap (◌++ drop 680 (bits s)) (bits-take 85 s (omega arith)))
+    ∙ drop-append-le 204 p (drop 680 (bits s)) (omega arith) in
+    let long : length (a ++ drop 204 p) ≡ 680 = length-append a (drop 204 p) ∙ omega (arith, length-drop 204 p) in
+    written-part 85 (a ++ drop 204 p) s t (omega arith) lt bs bt long
+    (e ∙ ap (λ (n : ℕ). a ++ drop n (bits s)) ac-sum ∙ ap (a ++◌) split ∙ sym (append_assoc a (drop 204 p) (drop 680 (bits s))))
 
 -- ---- the header
 

@@ -16,7 +16,7 @@ use Rattle.frame.specs.declared.Cleaned.{Cleaned}
 use Rattle.header.specs.Header.{headerRefusal}
 use Rattle.header_laying.specs.Laying.{withAc, layInNumber, layInOf, takeOutOf}
 use Rattle.header_tables.specs.AcTables.{acWidths, acOnes}
-use Rattle.header_inserter.specs.Cleaned.{withCleaned}
+use Rattle.header_inserter.specs.AcBits.{withCleaned}
 use Rattle.header_inserter.proofs.AcValues.{all_ones, frame-first}
 use Rattle.header_laying.proofs.Promises.{laying, taking-out, taken-with, size}
 

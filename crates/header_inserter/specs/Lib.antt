@@ -1,1 +1,1 @@
-pub mod Cleaned
+pub mod AcBits

@@ -6,7 +6,7 @@ ghost use Rattle.dsc.specs.Marks.{unmarked, marked};
 ghost use Rattle.header.specs.Header.{headerRefusal};
 ghost use Rattle.header_laying.specs.Laying.{withAc, layInNumber, layInOf, takeOutOf};
 ghost use Rattle.header_tables.specs.AcTables.{acWidths};
-ghost use Rattle.header_inserter.specs.Cleaned.{withCleaned};
+ghost use Rattle.header_inserter.specs.AcBits.{withFirst, withCleaned};
 
 use frame::{Cleaned, Edition};
 
@@ -14,10 +14,19 @@ use frame::{Cleaned, Edition};
 fn ac_values(frame: &[u8; 26]) -> [u64; 26]
     ensures { result ≡ unpack acWidths (bits frame.now) }
 {
-    let widths = header_tables::ac_widths();
+    let widths = header_tables::extension_free();
     let mut values = header_arrays::zeros26();
     bit_layouts::read_all(frame, &widths, &mut values);
     values
+}
+
+// The bits into the part that starts at byte 99: the bits after them stay.
+fn put_ac(part: &mut [u8], values: &[u64; 26])
+    requires { length part.old ≡ 89 }
+    ensures { part.new ≡ withFirst (pack acWidths values.now) part.old }
+{
+    let widths = header_tables::extension_free();
+    bit_layouts::write_all(part, &widths, values);
 }
 
 // The bits into a header, and the CRC.
@@ -25,7 +34,7 @@ fn put_into(header: &mut [u8], values: &[u64; 26])
     requires { length header.old ≡ 188 }
     ensures { header.new ≡ withAc header.old (pack acWidths values.now) }
 {
-    extension_writer::put_ac(&mut header[99..], values);
+    put_ac(&mut header[99..], values);
     header_writer::seal(header);
 }
 

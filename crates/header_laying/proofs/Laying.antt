@@ -7,23 +7,54 @@ use native.Mathlib.Omega.{arith}
 use lib.ListN.{length, take, drop, replicate, length-append, length-drop, take-append-drop}
 use lib.Seq.{take_at, drop_at, take_all, length-take-le}
 use Rattle.bits.specs.Bits.{bits, bytes, Bytes}
-use Rattle.bits.specs.Segment.{unpackSegments, fixedBitsHold}
+use Rattle.bits.specs.Layout.{sum, unpack}
+use Rattle.bits.specs.Segment.{Segment, field, fixedOnes, widths, unpackSegments, fixedHold, fixedBitsHold}
 use Rattle.bits.proofs.Bits.{length-bits, length-bytes, bits-bytes, bytes_bits, bits-take, bits-drop}
+use Rattle.bits.proofs.Segment.{fixedBitsHold-append}
 use Rattle.crc.specs.Crc.{crc32Of}
 use Rattle.frame.proofs.Parts.{inner-part}
-use Rattle.header.specs.Layout.{frontLayout, fillLayout}
+use Rattle.header.specs.Layout.{frontLayout, extensionLayout}
 use Rattle.header.specs.Fields.{frontOf}
 use Rattle.gf2.specs.Polynomial.{member}
-use Rattle.header.specs.Tests.{formUnknown, fillBits, fillOf, wrongAs}
 use Rattle.header.specs.Header.{frontIn, sealed}
 use Rattle.header_laying.specs.Laying.{acBits, withAc}
-use Rattle.header_laying.specs.Promises.{SameOutsideAc, SameExtension}
+use Rattle.header_laying.specs.Promises.{SameOutsideAc}
 use Rattle.header.specs.declared.Front.{Front}
 use Rattle.header.proofs.Sealed.{Bytes-take, Bytes-drop, length-sealed, sealed-front, sealed-extension, sealed-crc, sealed-only}
 use Rattle.header.proofs.Headers.{Accepted}
-use Rattle.header.proofs.Places.{same-fill-in, same-split-in}
 
--- ---- the bits after the AC bits, in the extension and in the whole header
+-- ---- the extension: the 204 AC bits, and 476 bits fixed at 1
+
+acLayout : List Segment
+acLayout = replicate 25 (field 8) ++ field 4 ∷ []
+
+onesLayout : List Segment
+onesLayout = fixedOnes 4 ∷ replicate 59 (fixedOnes 8)
+
+extension-parts : extensionLayout ≡ acLayout ++ onesLayout
+unfolding extensionLayout acLayout onesLayout
+extension-parts = refl
+
+ac-width : sum (widths acLayout) ≡ 204
+unfolding acLayout widths sum
+ac-width = refl
+
+ac-free : (bs : List Bool) → fixedBitsHold acLayout bs ≡ true
+unfolding acLayout widths unpack fixedHold
+ac-free bs = refl
+
+-- only the bits after the AC bits are tested
+ones-test : (bs : List Bool) → fixedBitsHold extensionLayout bs ≡ fixedBitsHold onesLayout (drop 204 bs)
+ones-test bs =
+    ap (λ (l : List Segment). fixedBitsHold l bs) extension-parts
+    ∙ fixedBitsHold-append acLayout onesLayout bs
+    ∙ ap₂ (λ (t : Bool) (n : ℕ). t && fixedBitsHold onesLayout (drop n bs)) (ac-free bs) ac-width
+
+-- ---- the bits after the AC bits
+
+-- the extension's bits, and the same bits in the whole header
+afterAc : List ℕ → List Bool
+afterAc h = drop 204 (bits (take 85 (drop 99 h)))
 
 module _ (h : List ℕ) (size : length h ≡ 188) where
   length-extension : length (take 85 (drop 99 h)) ≡ 85
@@ -32,11 +63,13 @@ module _ (h : List ℕ) (size : length h ≡ 188) where
   length-extension-bits : length (bits (take 85 (drop 99 h))) ≡ 680
   length-extension-bits = length-bits (take 85 (drop 99 h)) ∙ ap (8 *◌) length-extension
 
-  length-fillBits : length (fillBits h) ≡ 476
-  length-fillBits = length-drop 204 (bits (take 85 (drop 99 h))) ∙ omega (arith, length-extension-bits)
+  length-afterAc : length (afterAc h) ≡ 476
+  unfolding afterAc
+  length-afterAc = length-drop 204 (bits (take 85 (drop 99 h))) ∙ omega (arith, length-extension-bits)
 
-  pub fillBits-place : take 476 (drop 996 (bits h)) ≡ fillBits h
-  fillBits-place =
+  afterAc-place : take 476 (drop 996 (bits h)) ≡ afterAc h
+  unfolding afterAc
+  afterAc-place =
       let b = bits (take 85 (drop 99 h)) in
       let e : take 680 (drop 792 (bits h)) ≡ b =
       ap (take 680) (bits-drop 99 h (omega arith)) ∙ bits-take 85 (drop 99 h) (omega (arith, length-drop 99 h)) in
@@ -69,13 +102,13 @@ module _ (h : List ℕ) (bs : List Bool) (size : length h ≡ 188) (lb : length 
   length_front = length-take-le 99 h (omega arith)
 
   -- the extension's new bits are whole bytes
-  length-new : length (bs ++ fillBits h) ≡ 680
-  length-new = length-append bs (fillBits h) ∙ ap₂ ◌+◌ lb (length-fillBits h size)
+  length-new : length (bs ++ afterAc h) ≡ 680
+  length-new = length-append bs (afterAc h) ∙ ap₂ ◌+◌ lb (length-afterAc h size)
 
   -- the header with other bits: its length, its parts and its CRC
-  withAc-parts : Parts (withAc h bs) (take 99 h) (bs ++ fillBits h)
-  unfolding withAc
-  withAc-parts = sealed-parts (take 99 h) (bs ++ fillBits h) length_front length-new
+  withAc-parts : Parts (withAc h bs) (take 99 h) (bs ++ afterAc h)
+  unfolding withAc afterAc
+  withAc-parts = sealed-parts (take 99 h) (bs ++ afterAc h) length_front length-new
 
   length-withAc : length (withAc h bs) ≡ 188
   length-withAc = withAc-parts.size
@@ -83,51 +116,50 @@ module _ (h : List ℕ) (bs : List Bool) (size : length h ≡ 188) (lb : length 
   withAc-front : take 99 (withAc h bs) ≡ take 99 h
   withAc-front = withAc-parts.front
 
-  withAc-extension : bits (take 85 (drop 99 (withAc h bs))) ≡ bs ++ fillBits h
+  withAc-extension : bits (take 85 (drop 99 (withAc h bs))) ≡ bs ++ afterAc h
   withAc-extension = withAc-parts.extension
 
   pub withAc-bits : acBits (withAc h bs) ≡ bs
-  withAc-bits = ap (take 204) withAc-extension ∙ take_at bs (fillBits h) 204 lb
+  withAc-bits = ap (take 204) withAc-extension ∙ take_at bs (afterAc h) 204 lb
 
-  withAc-after : fillBits (withAc h bs) ≡ fillBits h
-  withAc-after = ap (drop 204) withAc-extension ∙ drop_at bs (fillBits h) 204 lb
+  withAc-after : afterAc (withAc h bs) ≡ afterAc h
+  unfolding afterAc
+  withAc-after = ap (drop 204) withAc-extension ∙ drop_at bs (afterAc h) 204 lb
 
   pub withAc-frontIn : frontIn (withAc h bs) ≡ frontIn h
   unfolding frontIn
   withAc-frontIn = ap (λ (x : List ℕ). frontOf (unpackSegments frontLayout (bits x))) withAc-front
-
-  -- the fill, and the fields of its layout
-  pub withAc-same : SameExtension (withAc h bs) h
-  withAc-same = record { fill = same-fill-in (withAc h bs) h withAc-after; split = same-split-in (withAc h bs) h withAc-after }
 
   pub withAc-outside : SameOutsideAc (withAc h bs) h
   withAc-outside =
       record {
         size = length-withAc ∙ sym size;
         front = withAc-front;
-        rest = fillBits-place (withAc h bs) length-withAc ∙ withAc-after ∙ sym (fillBits-place h size);
+        rest = afterAc-place (withAc h bs) length-withAc ∙ withAc-after ∙ sym (afterAc-place h size);
       }
 
   -- the second bits replace the first
   pub withAc-again : (cs : List Bool) → withAc (withAc h bs) cs ≡ withAc h cs
-  unfolding withAc
+  unfolding withAc afterAc
   withAc-again cs = ap₂ (λ (x : List ℕ) (t : List Bool). sealed (x ++ bytes 85 (cs ++ t))) withAc-front withAc-after
 
 pub withAc-accepted : (h : List ℕ) (bs : List Bool) → length bs ≡ 204 → Accepted h → Accepted (withAc h bs)
+unfolding afterAc
 withAc-accepted h bs lb a =
     let size = a.size in
     let front = withAc-frontIn h bs size lb in
-    let same = withAc-same h bs size lb in
+    let k = withAc h bs in
     record {
       size = length-withAc h bs size lb;
       packet-sync = ap (λ (f : Front). f.packet / 2 ^ 24) front ∙ a.packet-sync;
       crc = (withAc-parts h bs size lb).crc;
-      form = ap formUnknown front ∙ a.form;
+      form = ap (λ (f : Front). f.form) front ∙ a.form;
       slot-bit = ap (λ (x : List ℕ). fixedBitsHold frontLayout (bits x)) (withAc-front h bs size lb) ∙ a.slot-bit;
       states = ap (λ (f : Front). member 3 f.states) front ∙ a.states;
-      layout-bits = ap (λ (t : List Bool). fixedBitsHold (fillLayout (fillOf t)) t) (withAc-after h bs size lb) ∙ a.layout-bits;
-      extension =
-          (λ i. wrongAs (same.fill i) (front i).form (same.split i)) ∙ a.extension;
+      ones =
+          ones-test (bits (take 85 (drop 99 k)))
+          ∙ ap (fixedBitsHold onesLayout) (withAc-after h bs size lb)
+          ∙ sym (ones-test (bits (take 85 (drop 99 h)))) ∙ a.ones;
     }
 
 -- a header with its own AC bits

@@ -7,7 +7,7 @@ use Prim.Native.Nat.{ℕ}
 use native.Mathlib.Omega.{arith}
 use lib.Dec.{eqb}
 use lib.ListN.{length, take, drop, replicate, length-drop, length-replicate, take-append-drop}
-use lib.Seq.{take_all, take-take, length-take-le}
+use lib.Seq.{take_all, length-take-le}
 use borrow.Author.Tests.{eq-eqb, ne_eqb, eqb-true, eqb-false}
 use Rattle.bits.specs.Bits.{digit, odd, value, bits_of, bits, bytes, Bytes}
 use Rattle.bits.specs.Refusal.{firstRefusal, or_else}
@@ -30,13 +30,11 @@ use Rattle.frame.proofs.Frames.{parts-frame}
 use Rattle.frame.proofs.Origins.{same-frame}
 use Rattle.frame.proofs.Promises as frame
 use Rattle.frame.proofs.Editions.{editions}
-use Rattle.header.specs.Header.{frontIn, extensionIn, headerRefusal}
-use Rattle.header.specs.declared.Fill.TheVariants.{Split}
+use Rattle.header.specs.Header.{frontIn, headerRefusal}
 use Rattle.header.proofs.Headers as headers
-use Rattle.header.proofs.Promises as header
 use Rattle.header_laying.specs.Laying.{acBits, withAc, repairedBits, layInNumber, layInOf, takeOutOf}
-use Rattle.header_laying.specs.Promises.{SameOutsideAc, SameExtension, Laying, TakingOut}
-use Rattle.header_laying.proofs.Laying.{fillBits-place, withAc-bits, withAc-frontIn, withAc-same, withAc-outside, withAc-again, withAc-accepted, withAc-own}
+use Rattle.header_laying.specs.Promises.{SameOutsideAc, Laying, TakingOut}
+use Rattle.header_laying.proofs.Laying.{withAc-bits, withAc-frontIn, withAc-outside, withAc-again, withAc-accepted, withAc-own}
 
 -- a header that is changed only where nothing is refused
 changed : (P : List ℕ → Type 0) (n : ℕ) (x y : List ℕ) → (n ≡ 0 → P x) → P y → P (cond (eqb n 0) x y)
@@ -95,12 +93,6 @@ taken-outside h =
     changed (λ (k : List ℕ). SameOutsideAc k h) (headerRefusal h) (withAc h (replicate 204 true)) h
     (λ e. withAc-outside h (replicate 204 true) (size h e) length-ones) (unchanged-outside h)
 
-taken-extension : (h : List ℕ) → SameExtension (takeOutOf h) h
-unfolding takeOutOf
-taken-extension h =
-    changed (λ (k : List ℕ). SameExtension k h) (headerRefusal h) (withAc h (replicate 204 true)) h
-    (λ e. withAc-same h (replicate 204 true) (size h e) length-ones) (record { fill = refl; split = refl })
-
 taken-accepted : (h : List ℕ) → headerRefusal h ≡ 0 → headerRefusal (takeOutOf h) ≡ 0
 taken-accepted h e = ap headerRefusal (taken-with h e) ∙ accepted-with h (replicate 204 true) length-ones e
 
@@ -109,7 +101,7 @@ taken-bits h e = ap acBits (taken-with h e) ∙ withAc-bits h (replicate 204 tru
 
 pub taking-out : TakingOut
 taking-out =
-    record { taken-accepted = taken-accepted; taken-bits = taken-bits; taken-outside = taken-outside; taken-extension = taken-extension; taken-unchanged = taken-unchanged }
+    record { taken-accepted = taken-accepted; taken-bits = taken-bits; taken-outside = taken-outside; taken-unchanged = taken-unchanged }
 
 -- ---- laying in
 
@@ -172,18 +164,6 @@ module _ (ed : Edition) (q : Marking) where
   laid-front h f =
       changed (λ (k : List ℕ). frontIn k ≡ frontIn h) (layInNumber ed q h f) (withAc h (repairedBits q f)) h
       (λ e. withAc-frontIn h (repairedBits q f) (size h (header-accepted h f e)) (length-repaired q f)) refl
-
-  laid-extension : (h f : List ℕ) → SameExtension (layInOf ed q h f) h
-  unfolding layInOf
-  laid-extension h f =
-      changed (λ (k : List ℕ). SameExtension k h) (layInNumber ed q h f) (withAc h (repairedBits q f)) h
-      (λ e. withAc-same h (repairedBits q f) (size h (header-accepted h f e)) (length-repaired q f)) (record { fill = refl; split = refl })
-
-  laid-zeros : (h f : List ℕ) → layInNumber ed q h f ≡ 0 → (extensionIn h).fill ≡ Split → take 4 (drop 996 (bits (layInOf ed q h f))) ≡ replicate 4 false
-  laid-zeros h f e s =
-      let k = layInOf ed q h f in
-      let a = laid-accepted h f e in
-      sym (take-take 4 476 (drop 996 (bits k)) (omega arith)) ∙ ap (take 4) (fillBits-place k (size k a)) ∙ ((header.extension-area).split-layout k a ((laid-extension h f).fill ∙ s)).zeros
 
   -- the repaired bits and the filler are the repaired frame
   repaired-frame : (f : List ℕ) (r : Record) → frame_of ed r ≡ cleanBy q f → bytes 26 (repairedBits q f ++ zeros 4) ≡ cleanBy q f
@@ -279,8 +259,6 @@ laying ed q =
       laid-pattern = laid-pattern ed q;
       laid-outside = laid-outside ed q;
       laid-front = laid-front ed q;
-      laid-extension = laid-extension ed q;
-      laid-zeros = laid-zeros ed q;
       laid-twice = laid-twice ed q;
       taken-laid = taken-laid ed q;
       back-again = λ h f b o e. back-again ed q h f e b o;

@@ -7,7 +7,7 @@ use Rattle.frame.specs.Write.{frame_of, announced, messageBits, Legal, recordRef
 use Rattle.frame.specs.Worked.{areaRecord}
 use Rattle.frame.specs.declared.Edition.TheVariants.{First}
 use Rattle.header.specs.Header.{headerOf, sealed}
-use Rattle.header.specs.Worked.{sampleWith, sample}
+use Rattle.header.specs.Worked.{sample}
 use Rattle.header.proofs.Worked as header
 use mathlib.Core.List.{[], ◌∷◌}
 use Rattle.bits.specs.Layout.{pack}
@@ -19,8 +19,8 @@ use Rattle.dsc.specs.Code.{powers, generatorLow, parityOf}
 use Rattle.frame.specs.Identification.{classOf}
 use Rattle.frame.specs.Body.{row, layout}
 use Rattle.frame.specs.Fields.{gather, scatter, fieldWidths, bodyValues}
-use Rattle.header.specs.Layout.{frontLayout, acLayout, fillLayout, extensionLayout}
-use Rattle.header.specs.Fields.{pairs, frontFields, splitFields, noSplit, extensionFields}
+use Rattle.header.specs.Layout.{frontLayout, extensionLayout}
+use Rattle.header.specs.Fields.{pairs, frontFields, extensionFields}
 use Rattle.header_laying.specs.Laying.{withAc, layInOf}
 use Rattle.header_laying.specs.Worked.{Worked}
 use Rattle.header_laying.proofs.Promises.{laid-own}
@@ -31,7 +31,7 @@ unfolding areaRecord recordRefusal firstRefusal classOf row layout scatter field
 warning-legal = refl
 
 crc-with-frame : drop 184 (withAc (headerOf (sample 0x47000000 1 0)) (take 204 (bits (frame_of First (areaRecord 0))))) ≡ 0xB0 ∷ 0xAC ∷ 0x5A ∷ 0x53 ∷ []
-unfolding add scale remainder digit odd value bits_of bits bytes pack widths withFixed crc crc32 frontLayout acLayout fillLayout extensionLayout pairs frontFields splitFields noSplit extensionFields sealed headerOf sampleWith withAc poly member checkBits crc10 powers generatorLow parityOf classOf row layout gather bodyValues announced messageBits frame_of areaRecord
+unfolding add scale remainder digit odd value bits_of bits bytes pack widths withFixed crc crc32 frontLayout extensionLayout pairs frontFields extensionFields sealed headerOf sample withAc poly member checkBits crc10 powers generatorLow parityOf classOf row layout gather bodyValues announced messageBits frame_of areaRecord
 crc-with-frame = refl
 
 laid : layInOf First unmarked (headerOf (sample 0x47000000 1 0)) (frame_of First (areaRecord 0)) ≡ withAc (headerOf (sample 0x47000000 1 0)) (take 204 (bits (frame_of First (areaRecord 0))))

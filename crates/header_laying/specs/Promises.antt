@@ -1,6 +1,6 @@
--- What laying in and taking out promise, in the words of demand 2 and of documents 01 and 02, a), e), j), d) and c). The records have one value each, `Laying` for every
+-- What laying in and taking out promise, in the words of demand 2 and of documents 01 and 02, a), e), j) and d). The records have one value each, `Laying` for every
 -- edition and for frames with marks and without, proved in proofs/Promises.antt. Assumes nothing.
-use Rattle.std.specs.Prelude.{◌≡◌, true, false, ◌≢◌, List, ◌++◌, ℕ, length, take, drop, replicate}
+use Rattle.std.specs.Prelude.{◌≡◌, true, ◌≢◌, List, ◌++◌, ℕ, length, take, drop, replicate}
 use Rattle.bits.specs.Bits.{bits, bytes, Bytes}
 use Rattle.gf2.specs.Polynomial.{zeros}
 use Rattle.dsc.specs.Marks.{Marking, repairBy}
@@ -11,8 +11,7 @@ use Rattle.sync_pattern.specs.Pattern.{patternBits}
 use Rattle.frame.specs.declared.Tuner.{Tuner}
 use Rattle.frame.specs.declared.Record.{Record}
 use Rattle.frame.specs.declared.Reading.TheVariants.{Accepted}
-use Rattle.header.specs.Header.{frontIn, extensionIn, headerRefusal}
-use Rattle.header.specs.declared.Fill.TheVariants.{Split}
+use Rattle.header.specs.Header.{frontIn, headerRefusal}
 use Rattle.header_laying.specs.Laying.{acBits, repairedBits, layInNumber, layInOf, takeOutOf}
 
 -- two headers agree outside the 204 AC bits and the CRC
@@ -22,11 +21,6 @@ pub record SameOutsideAc (h k : List ℕ) : Type 0 where
   pub front : take 99 h ≡ take 99 k
   -- the low half of byte 124, and bytes 125 to 183
   pub rest : take 476 (drop 996 (bits h)) ≡ take 476 (drop 996 (bits k))
-
--- two headers have the extension filled alike, and the same values in the fields of its layout
-pub record SameExtension (h k : List ℕ) : Type 0 where
-  pub fill : (extensionIn h).fill ≡ (extensionIn k).fill
-  pub split : (extensionIn h).split ≡ (extensionIn k).split
 
 -- of a frame that is marked as q says
 pub record Laying (ed : Edition) (q : Marking) : Type 0 where
@@ -43,9 +37,6 @@ pub record Laying (ed : Edition) (q : Marking) : Type 0 where
   -- everything else stays, the change number too
   pub laid-outside : (h f : List ℕ) → SameOutsideAc (layInOf ed q h f) h
   pub laid-front : (h f : List ℕ) → frontIn (layInOf ed q h f) ≡ frontIn h
-  -- so that a header stays unused or split, and a split one keeps its layout (document 02, c), the 0000 in the low half of byte 124 too
-  pub laid-extension : (h f : List ℕ) → SameExtension (layInOf ed q h f) h
-  pub laid-zeros : (h f : List ℕ) → layInNumber ed q h f ≡ 0 → (extensionIn h).fill ≡ Split → take 4 (drop 996 (bits (layInOf ed q h f))) ≡ replicate 4 false
   -- laying in twice is laying in the second
   pub laid-twice : (p : Marking) (h f g : List ℕ) → layInNumber ed q h f ≡ 0 → refusalBy ed p g ≡ 0 → layInOf ed p (layInOf ed q h f) g ≡ layInOf ed p h g
   -- taking out after laying in is taking out alone
@@ -70,6 +61,5 @@ pub record TakingOut : Type 0 where
   pub taken-accepted : (h : List ℕ) → headerRefusal h ≡ 0 → headerRefusal (takeOutOf h) ≡ 0
   pub taken-bits : (h : List ℕ) → headerRefusal h ≡ 0 → acBits (takeOutOf h) ≡ replicate 204 true
   pub taken-outside : (h : List ℕ) → SameOutsideAc (takeOutOf h) h
-  pub taken-extension : (h : List ℕ) → SameExtension (takeOutOf h) h
   -- a refusal changes nothing
   pub taken-unchanged : (h : List ℕ) → headerRefusal h ≢ 0 → takeOutOf h ≡ h

@@ -5,7 +5,8 @@ use Prim.Native.Nat.{ℕ, ◌/◌, ◌^◌}
 use lib.ListN.{drop}
 use borrow.Author.Tests.{eq-eqb, ne_eqb}
 use Rattle.bits.proofs.Refusal.{Tested, end, met, unmet, tested}
-use Rattle.header.specs.Tests.{tooWide, formUnknown, stateWrong, extensionWrong}
+use Rattle.gf2.specs.Polynomial.{member}
+use Rattle.header.specs.Tests.{tooWide}
 use Rattle.header.specs.Header.{recordTests, recordRefusal}
 use Rattle.header.specs.declared.Header.{Header}
 
@@ -24,16 +25,12 @@ module _ (r : Header) where
       unfolding recordRefusal
       past-packet-sync a = tested (unmet z10 (unmet (ap not (eq-eqb _ _ z12)) a))
 
-      pub form-refused : formUnknown r.front ≡ true → 14 ≡ recordRefusal r
-      form-refused e = past-packet-sync (met e)
+      pub form-refused : (r.front.form ≡ 1 → ⊥) → 14 ≡ recordRefusal r
+      form-refused n = past-packet-sync (met (ap not (ne_eqb _ _ n)))
 
-      module _ (z14 : formUnknown r.front ≡ false) where
-        pub state-refused : stateWrong r.front ≡ true → 15 ≡ recordRefusal r
-        state-refused e = past-packet-sync (unmet z14 (met e))
+      module _ (z14 : r.front.form ≡ 1) where
+        pub state-refused : member 3 r.front.states ≡ true → 15 ≡ recordRefusal r
+        state-refused e = past-packet-sync (unmet (ap not (eq-eqb _ _ z14)) (met e))
 
-        module _ (z15 : stateWrong r.front ≡ false) where
-          pub extension-refused : extensionWrong r.front r.extension ≡ true → 16 ≡ recordRefusal r
-          extension-refused e = past-packet-sync (unmet z14 (unmet z15 (met e)))
-
-          pub none-refused : extensionWrong r.front r.extension ≡ false → 0 ≡ recordRefusal r
-          none-refused e = past-packet-sync (unmet z14 (unmet z15 (unmet e end)))
+        pub none-refused : member 3 r.front.states ≡ false → 0 ≡ recordRefusal r
+        none-refused e = past-packet-sync (unmet (ap not (eq-eqb _ _ z14)) (unmet e end))

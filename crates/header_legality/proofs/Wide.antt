@@ -17,12 +17,9 @@ module _ (r : Header) (ws vs : List ℕ) (fits : Bool) (ew : ws ≡ freeWidths f
 
   pub front-wide : not fits ≡ true → true ≡ tooWide r
   unfolding tooWide
-  front-wide h =
-      sym (ap (λ t. not (t && fitb (freeWidths (extensionLayout r.extension.fill)) (extensionFields r.extension))) (front_fits ∙ not-true fits h))
+  front-wide h = sym (ap (λ t. not (t && fitb (freeWidths extensionLayout) (extensionFields r.extension))) (front_fits ∙ not-true fits h))
 
-  pub extension-wide : (us xs : List ℕ) (also : Bool) → fits ≡ true → us ≡ freeWidths (extensionLayout r.extension.fill) → xs ≡ extensionFields r.extension
-      → also ≡ fitb us xs → not also ≡ tooWide r
-  unfolding tooWide
-  extension-wide us xs also h eu ex f =
-      ap not (f ∙ ap₂ fitb eu ex)
-      ∙ sym (ap (λ t. not (t && fitb (freeWidths (extensionLayout r.extension.fill)) (extensionFields r.extension))) (front_fits ∙ h))
+  pub extension-wide : (us : List ℕ) (also : Bool) → fits ≡ true → us ≡ freeWidths extensionLayout → also ≡ fitb us r.extension.ac → not also ≡ tooWide r
+  unfolding tooWide extensionFields
+  extension-wide us also h eu f =
+      ap not (f ∙ ap (λ x. fitb x r.extension.ac) eu) ∙ sym (ap (λ t. not (t && fitb (freeWidths extensionLayout) r.extension.ac)) (front_fits ∙ h))

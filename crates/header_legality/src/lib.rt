@@ -1,4 +1,4 @@
-// Whether the record of a header is legal: its own refusals, 10, 12, 14, 15 and 16, which the writer gives.
+// Whether the record of a header is legal: its own refusals, 10, 12, 14 and 15, which the writer gives.
 ghost use Rattle.std.specs.Prelude.{◌≡◌};
 ghost use Rattle.header.specs.Tests.{tooWide};
 ghost use Rattle.header.specs.Header.{recordRefusal};
@@ -15,10 +15,9 @@ fn too_wide(header: Header) -> bool
         return true;
     }
     let extension = header.extension;
-    let fields = header_fields::extension_fields(extension);
-    let fill = extension.fill;
-    let widths = header_tables::extension_free(fill);
-    !bit_layouts::fits_all(&widths, &fields)
+    let ac = extension.ac;
+    let ac_widths = header_tables::extension_free();
+    !bit_layouts::fits_all(&ac_widths, &ac)
 }
 
 // A record's refusal, or 0 where it is legal.
@@ -32,15 +31,12 @@ pub fn record_refusal(header: Header) -> u8
     if front.packet >> 24 != 0x47 {
         return 12;
     }
-    if header_limits::form_unknown(front.form) {
+    if front.form != 1 {
         return 14;
     }
     let states = front.states;
     if header_arrays::has(&states, 3) {
         return 15;
-    }
-    if header_limits::extension_wrong(front.form, header.extension) {
-        return 16;
     }
     0
 }

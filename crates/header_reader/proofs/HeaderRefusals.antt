@@ -1,6 +1,6 @@
 -- The tests of a header, met or left in their order. Assumes nothing.
-use mathlib.Core.Path.{◌≡◌, sym, ap, ap₂, ◌∙◌}
-use mathlib.Core.Bool.{Bool, true, false, cond, not, ◌||◌, or-true}
+use mathlib.Core.Path.{◌≡◌, sym, ap, ◌∙◌}
+use mathlib.Core.Bool.{Bool, true, false, cond, not, ◌||◌, or-true, not-not}
 use mathlib.Core.List.{List}
 use Prim.Native.Nat.{ℕ, ◌/◌, ◌^◌}
 use lib.Dec.{eqb}
@@ -8,15 +8,13 @@ use lib.ListN.{length, drop}
 use borrow.Author.Tests.{eq-eqb, ne_eqb}
 use Rattle.bits.proofs.Refusal.{Tested, end, met, unmet, tested}
 use Rattle.gf2.specs.Polynomial.{member}
-use Rattle.header.specs.Tests.{crcWrong, neitherForm, formUnknown, stateWrong, slotBitWrong, layoutBitWrong, wrongAs, extensionWrong}
-use Rattle.header.specs.Header.{frontIn, extensionIn, headerIn, no_header, headerTests, headerRefusal, headerReadOf}
+use Rattle.header.specs.Tests.{crcWrong, slotBitWrong, extensionWrong}
+use Rattle.header.specs.Header.{frontIn, headerIn, no_header, headerTests, headerRefusal, headerReadOf}
 use Rattle.header.specs.declared.Front.{Front}
 use Rattle.header.specs.declared.Header.{Header}
 use Rattle.header_reader.specs.Parts.{frontFound, extensionFound}
 use Rattle.header_reader.specs.declared.FrontFound.{FrontFound}
-use Rattle.header.specs.declared.Extension.{Extension}
-use Rattle.extension_reader.specs.Found.{found}
-use Rattle.extension_reader.specs.declared.ExtensionFound.{ExtensionFound}
+use Rattle.header_reader.specs.declared.ExtensionFound.{ExtensionFound}
 
 pub short-refused : (h : List ℕ) → (length h ≡ 188 → ⊥) → 1 ≡ headerRefusal h
 unfolding headerRefusal
@@ -33,8 +31,8 @@ module _ (h : List ℕ) (l : length h ≡ 188) (front : FrontFound) (ef : front 
   packet-in : (b : Bool) → eqb (front.front.packet / 2 ^ 24) 0x47 ≡ b → not (eqb ((frontIn h).packet / 2 ^ 24) 0x47) ≡ not b
   packet-in b e = ap not (ap (λ (f : Front). eqb (f.packet / 2 ^ 24) 0x47) (sym is_front) ∙ e)
 
-  form_in : formUnknown (frontIn h) ≡ neitherForm front.front.form
-  form_in = ap (λ (f : Front). neitherForm f.form) (sym is_front)
+  form_in : (b : Bool) → eqb front.front.form 1 ≡ b → not (eqb (frontIn h).form 1) ≡ not b
+  form_in b e = ap not (ap (λ (f : Front). eqb f.form 1) (sym is_front) ∙ e)
 
   pub packet-sync-refused : (front.front.packet / 2 ^ 24 ≡ 0x47 → ⊥) → 12 ≡ headerRefusal h
   packet-sync-refused n = past-length (met (packet-in false (ne_eqb _ _ n)))
@@ -47,50 +45,37 @@ module _ (h : List ℕ) (l : length h ≡ 188) (front : FrontFound) (ef : front 
     crc-refused e = past-packet-sync (met e)
 
     module _ (z13 : crcWrong h ≡ false) where
-      pub form-refused : neitherForm front.front.form ≡ true → 14 ≡ headerRefusal h
-      form-refused e = past-packet-sync (unmet z13 (met (form_in ∙ e)))
+      pub form-refused : (front.front.form ≡ 1 → ⊥) → 14 ≡ headerRefusal h
+      form-refused n = past-packet-sync (unmet z13 (met (form_in false (ne_eqb _ _ n))))
 
-      module _ (z14 : neitherForm front.front.form ≡ false) where
+      module _ (z14 : front.front.form ≡ 1) where
         past-form : {n : ℕ} → Tested (drop 4 (headerTests h)) n → n ≡ headerRefusal h
-        past-form a = past-packet-sync (unmet z13 (unmet (form_in ∙ z14) a))
+        past-form a = past-packet-sync (unmet z13 (unmet (form_in true (eq-eqb _ _ z14)) a))
 
         slot-bit : slotBitWrong h ≡ not front.fixed
-        unfolding slotBitWrong
-        slot-bit = sym (ap (λ (f : FrontFound). not f.fixed) ef)
+        slot-bit = sym (ap (λ (f : FrontFound). not f.fixed) ef ∙ not-not (slotBitWrong h))
 
-        states : stateWrong (frontIn h) ≡ member 3 front.front.states
+        states : member 3 (frontIn h).states ≡ member 3 front.front.states
         states = sym (ap (λ (f : Front). member 3 f.states) is_front)
 
         pub slot-bit-refused : not front.fixed ≡ true → 15 ≡ headerRefusal h
-        slot-bit-refused e = past-form (met (ap (◌|| stateWrong (frontIn h)) (slot-bit ∙ e)))
+        slot-bit-refused e = past-form (met (ap (◌|| (member 3 (frontIn h).states || extensionWrong h)) (slot-bit ∙ e)))
 
         pub state-refused : member 3 front.front.states ≡ true → 15 ≡ headerRefusal h
-        state-refused e = past-form (met (ap (slotBitWrong h ||◌) (states ∙ e) ∙ or-true (slotBitWrong h)))
+        state-refused e = past-form (met (ap (λ t. slotBitWrong h || (t || extensionWrong h)) (states ∙ e) ∙ or-true (slotBitWrong h)))
 
-        module _ (a : not front.fixed ≡ false) (b : member 3 front.front.states ≡ false) (extension : ExtensionFound) (ee : extension ≡ extensionFound h) where
-          past-states : {n : ℕ} → Tested (drop 5 (headerTests h)) n → n ≡ headerRefusal h
-          past-states t = past-form (unmet (rw (slot-bit ∙ a, states ∙ b)) t)
+        module _ (extension : ExtensionFound) (ee : extension ≡ extensionFound h) where
+          extension-bits : extensionWrong h ≡ not extension.fixed
+          extension-bits = sym (ap (λ (f : ExtensionFound). not f.fixed) ee ∙ not-not (extensionWrong h))
 
-          layout-bit : layoutBitWrong h ≡ not extension.fixed
-          unfolding layoutBitWrong found
-          layout-bit = sym (ap (λ (f : ExtensionFound). not f.fixed) ee)
+          pub extension-refused : not extension.fixed ≡ true → 15 ≡ headerRefusal h
+          extension-refused e =
+              past-form
+              (met (ap (λ t. slotBitWrong h || (member 3 (frontIn h).states || t)) (extension-bits ∙ e)
+              ∙ ap (slotBitWrong h ||◌) (or-true (member 3 (frontIn h).states)) ∙ or-true (slotBitWrong h)))
 
-          is-extension : extension.extension ≡ extensionIn h
-          unfolding extensionIn found
-          is-extension = ap (λ (f : ExtensionFound). f.extension) ee
-
-          wrong : extensionWrong (frontIn h) (extensionIn h) ≡ wrongAs extension.extension.fill front.front.form extension.extension.split
-          wrong = ap₂ (λ (f : Front) (e : Extension). extensionWrong f e) (sym is_front) (sym is-extension)
-
-          pub layout-refused : not extension.fixed ≡ true → 16 ≡ headerRefusal h
-          layout-refused e = past-states (met (ap (◌|| extensionWrong (frontIn h) (extensionIn h)) (layout-bit ∙ e)))
-
-          pub extension-refused : wrongAs extension.extension.fill front.front.form extension.extension.split ≡ true → 16 ≡ headerRefusal h
-          extension-refused e = past-states (met (ap (layoutBitWrong h ||◌) (wrong ∙ e) ∙ or-true (layoutBitWrong h)))
-
-          pub none-refused : not extension.fixed ≡ false → wrongAs extension.extension.fill front.front.form extension.extension.split ≡ false
-              → 0 ≡ headerRefusal h
-          none-refused d e = past-states (unmet (ap₂ ◌||◌ (layout-bit ∙ d) (wrong ∙ e)) end)
+          pub none-refused : not front.fixed ≡ false → member 3 front.front.states ≡ false → not extension.fixed ≡ false → 0 ≡ headerRefusal h
+          none-refused a b c = past-form (unmet (rw (slot-bit ∙ a, states ∙ b, extension-bits ∙ c)) end)
 
 -- ---- the header beside its number
 
@@ -105,7 +90,7 @@ read-refused h n r e z f =
 pub read_found : (h : List ℕ) (n : ℕ) (front : FrontFound) (extension : ExtensionFound) → n ≡ headerRefusal h → n ≡ 0
     → front ≡ frontFound h → extension ≡ extensionFound h
     → record { number = 0; header = record { front = front.front; extension = extension.extension } } ≡ headerReadOf h
-unfolding headerReadOf extensionIn found
+unfolding headerReadOf
 read_found h n front extension e z ef ee =
     λ i. record {
       number = (sym z ∙ e) i;

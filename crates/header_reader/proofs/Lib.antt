@@ -1,2 +1,3 @@
+pub mod FieldsRead
 pub mod Zeros
 pub mod HeaderRefusals

@@ -4,14 +4,19 @@ ghost use Rattle.header.specs.Tests.{crcWrong};
 ghost use Rattle.header.specs.Header.{no_header, headerRefusal, headerReadOf};
 ghost use Rattle.header_reader.specs.Parts.{frontFound, extensionFound};
 
-use extension_reader::ExtensionFound;
-use header::{Fill, Front, Header, HeaderReading};
+use header::{Extension, Front, Header, HeaderReading};
 
-// The front, and whether its fixed bit is as it should be.
+// A part, and whether its fixed bits are as they should be.
 #[derive(Drop)]
 pub struct FrontFound {
     pub fixed: bool,
     pub front: Front,
+}
+
+#[derive(Drop)]
+pub struct ExtensionFound {
+    pub fixed: bool,
+    pub extension: Extension,
 }
 
 // Bytes 0 to 98.
@@ -32,7 +37,12 @@ fn find_extension(h: &[u8]) -> ExtensionFound
     requires { length h.now ≡ 188 }
     ensures { result ≡ extensionFound h.now }
 {
-    extension_reader::find(&h[99..184])
+    let kinds = header_tables::extension_kinds();
+    let widths = header_tables::extension_widths();
+    let mut v = header_arrays::zeros26();
+    let fixed = segments::read_fields(&h[99..184], &kinds, &widths, &mut v);
+    let extension = header_fields::extension_of(&v);
+    ExtensionFound { fixed, extension }
 }
 
 fn crc_wrong(h: &[u8]) -> bool
@@ -48,8 +58,8 @@ fn no_header() -> Header
 {
     let none = header_arrays::zeros119();
     let front = header_fields::front_of(&none);
-    let nothing = header_arrays::zeros85();
-    let extension = header_fields::extension_of(Fill::Unused, &nothing);
+    let nothing = header_arrays::zeros26();
+    let extension = header_fields::extension_of(&nothing);
     Header { front, extension }
 }
 
@@ -65,7 +75,7 @@ fn refusal_of(h: &[u8], front: FrontFound, extension: ExtensionFound) -> u8
     if crc_wrong(h) {
         return 13;
     }
-    if header_limits::form_unknown(found.form) {
+    if found.form != 1 {
         return 14;
     }
     if !front.fixed {
@@ -76,10 +86,7 @@ fn refusal_of(h: &[u8], front: FrontFound, extension: ExtensionFound) -> u8
         return 15;
     }
     if !extension.fixed {
-        return 16;
-    }
-    if header_limits::extension_wrong(found.form, extension.extension) {
-        return 16;
+        return 15;
     }
     0
 }

@@ -1,11 +1,11 @@
 -- The 204 AC bits as values: 25 bytes and then 4 bits. No promise speaks of them. Assumes nothing.
 use Rattle.std.specs.Prelude.{List, [], ◌∷◌, ◌++◌, ℕ, replicate}
 use Rattle.bits.specs.Segment.{freeWidths}
-use Rattle.header.specs.Layout.{acLayout}
+use Rattle.header.specs.Layout.{extensionLayout}
 
--- their widths
+-- the fields of the extension
 abbrev pub acWidths : List ℕ
-acWidths = freeWidths acLayout
+acWidths = freeWidths extensionLayout
 
 -- all of them 1
 unfoldable pub acOnes : List ℕ

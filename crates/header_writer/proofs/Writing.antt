@@ -17,7 +17,7 @@ use Rattle.crc.specs.Crc.{crc32, crc32Of}
 use Rattle.crc.proofs.Crc.{crc32-bits}
 use Rattle.header.specs.Layout.{frontLayout, extensionLayout}
 use Rattle.header.specs.Fields.{frontFields, extensionFields}
-use Rattle.header.specs.Header.{frontBytes, extensionBytes, recordRefusal, sealed, headerOf, writeNumber, writeOf}
+use Rattle.header.specs.Header.{recordRefusal, sealed, headerOf, writeNumber, writeOf}
 use Rattle.header.specs.declared.Header.{Header}
 use Rattle.header.proofs.Sealed.{Bytes-take}
 use Rattle.header.proofs.Parts.{bytes-parts}
@@ -50,15 +50,16 @@ crc-put-at h t crc l lt bh bt ec e ea em ek =
 
 -- ---- front, extension and CRC
 
-pub header-written : (r : Header) (s v₁ v₂ v₃ : List ℕ) → v₁ ≡ frontBytes r.front ++ drop 99 s
-    → v₂ ≡ take 99 v₁ ++ (extensionBytes r.extension ++ drop 85 (drop 99 v₁)) → v₃ ≡ sealed (take 184 v₂) → v₃ ≡ headerOf r
+pub header-written : (r : Header) (s v₁ v₂ v₃ : List ℕ) → v₁ ≡ bytes 99 (packSegments frontLayout (frontFields r.front)) ++ drop 99 s
+    → v₂ ≡ take 99 v₁ ++ (bytes 85 (packSegments extensionLayout (extensionFields r.extension)) ++ drop 85 (drop 99 v₁))
+    → v₃ ≡ sealed (take 184 v₂) → v₃ ≡ headerOf r
 unfolding headerOf
 header-written r s v₁ v₂ v₃ e₁ e₂ e₃ =
-    let p = frontBytes r.front in
-    let q = extensionBytes r.extension in
+    let p = bytes 99 (packSegments frontLayout (frontFields r.front)) in
+    let q = bytes 85 (packSegments extensionLayout (extensionFields r.extension)) in
     let rest = drop 85 (drop 99 v₁) in
     let lp : length p ≡ 99 = length-bytes 99 (packSegments frontLayout (frontFields r.front)) in
-    let lq : length q ≡ 85 = length-bytes 85 (packSegments (extensionLayout r.extension.fill) (extensionFields r.extension)) in
+    let lq : length q ≡ 85 = length-bytes 85 (packSegments extensionLayout (extensionFields r.extension)) in
     let f : take 99 v₁ ≡ p = ap (take 99) e₁ ∙ take_at p (drop 99 s) 99 lp in
     let w : v₂ ≡ (p ++ q) ++ rest = e₂ ∙ ap (◌++ (q ++ rest)) f ∙ sym (append_assoc p q rest) in
     e₃ ∙ ap sealed (ap (take 184) w ∙ take_at (p ++ q) rest 184 (length-append p q ∙ omega arith))

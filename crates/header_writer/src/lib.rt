@@ -1,18 +1,33 @@
 // Writing a header: the bytes of a record.
 ghost use Rattle.std.specs.Prelude.{◌≡◌, length, take, drop, ◌++◌};
-ghost use Rattle.header.specs.Header.{frontBytes, sealed, writeNumber, writeOf};
+ghost use Rattle.bits.specs.Bits.{bytes};
+ghost use Rattle.bits.specs.Segment.{packSegments};
+ghost use Rattle.header.specs.Layout.{frontLayout, extensionLayout};
+ghost use Rattle.header.specs.Fields.{frontFields, extensionFields};
+ghost use Rattle.header.specs.Header.{sealed, writeNumber, writeOf};
 
-use header::{Front, Header};
+use header::{Extension, Front, Header};
 
 // Bytes 0 to 98.
 fn put_front(buffer: &mut [u8], front: Front)
     requires { length buffer.old ≡ 188 }
-    ensures { buffer.new ≡ frontBytes front ++ drop 99 buffer.old }
+    ensures { buffer.new ≡ bytes 99 (packSegments frontLayout (frontFields front)) ++ drop 99 buffer.old }
 {
     let v = header_fields::front_fields(front);
     let kinds = header_tables::front_kinds();
     let widths = header_tables::front_widths();
     segments::write_fields(buffer, &kinds, &widths, &v);
+}
+
+// Bytes 99 to 183, of the part that starts at byte 99.
+fn put_extension(part: &mut [u8], extension: Extension)
+    requires { length part.old ≡ 89 }
+    ensures { part.new ≡ bytes 85 (packSegments extensionLayout (extensionFields extension)) ++ drop 85 part.old }
+{
+    let ac = extension.ac;
+    let kinds = header_tables::extension_kinds();
+    let widths = header_tables::extension_widths();
+    segments::write_fields(part, &kinds, &widths, &ac);
 }
 
 // The CRC in bytes 184 to 187. It requires a whole header: its callers have tested the length, and there is no refusal to answer with here.
@@ -37,7 +52,7 @@ pub fn write(header: Header, buffer: &mut [u8]) -> u8
         return number;
     }
     put_front(buffer, header.front);
-    extension_writer::put(&mut buffer[99..], header.extension);
+    put_extension(&mut buffer[99..], header.extension);
     seal(buffer);
     0
 }

@@ -64,7 +64,7 @@ fn read_runs(s: &mut [u8], n: usize) -> bool {
         if n - at < count {
             return false;
         }
-        byte_runs::fill(&mut s[at..at + count], run.byte);
+        test_values::fill(&mut s[at..at + count], run.byte);
         at += count;
     }
     true

@@ -14,8 +14,8 @@ fn zeros() -> [u8; 188] {
     [0; 188]
 }
 
-fn no_fields() -> [u64; 205] {
-    [0; 205]
+fn no_fields() -> [u64; 145] {
+    [0; 145]
 }
 
 // The fields, written, are that header.
@@ -99,7 +99,7 @@ fn read_by_value(header: &[u8]) -> bool {
     let reading = header_reader::read(header);
     test_cases::hex(reading.number as u64);
     let mut fields = no_fields();
-    abi_header_record::put_fields(reading.header, &mut fields);
+    abi_header::put_fields(reading.header, &mut fields);
     test_cases::end_values(&fields)
 }
 

@@ -5,7 +5,7 @@ use Prim.Native.Nat.{ℕ, zero, suc, ◌+◌, ◌*◌, ◌<◌}
 use native.Mathlib.Nat.{mul-suc}
 use native.Mathlib.Numerals.{add-one}
 use native.Mathlib.Omega.{arith}
-use lib.ListN.{length, get_or, take, drop, set}
+use lib.ListN.{length, get_or, take, drop, set, replicate, length-replicate, replicate-append-replicate}
 use lib.Seq.{drop-cons, drop-drop, set_at, append_snoc, take_all}
 use borrow.Author.Tests.{le-leb}
 use Rattle.bits.specs.Bits.{value, bits}
@@ -17,6 +17,12 @@ use Rattle.test_values.specs.Numbers.{numbersOf}
 stored_next : (p out : List ℕ) (k x : ℕ) → length p ≡ k → k < length out → set (p ++ drop k out) k x ≡ (p ++ x ∷ []) ++ drop (k + 1) out
 stored_next p out k x l h =
     rw (add-one, drop-cons out k 0 h) (set_at p (get_or out k 0) (drop (suc k) out) x k l ∙ sym (append_snoc p x (drop (suc k) out)))
+
+-- ---- one byte in every place
+
+pub filled_next : (out : List ℕ) (k x : ℕ) → k < length out → set (replicate k x ++ drop k out) k x ≡ replicate (k + 1) x ++ drop (k + 1) out
+filled_next out k x h =
+    stored_next (replicate k x) out k x (length-replicate k x) h ∙ ap (◌++ drop (k + 1) out) (replicate-append-replicate k 1 x)
 
 -- ---- numbers
 

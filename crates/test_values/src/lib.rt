@@ -5,6 +5,15 @@ ghost use Rattle.std.specs.Float.Ieee.{of_bits, to_bits};
 ghost use Rattle.bits.specs.Bits.{value, bits};
 ghost use Rattle.test_values.specs.Numbers.{numbersOf};
 
+// One byte in every place.
+pub fn fill(s: &mut [u8], byte: u8)
+    ensures { s.new ≡ replicate (length s.old) byte }
+{
+    for i in 0..s.len() {
+        s[i] = byte;
+    }
+}
+
 // Zeros; their number is said too, since a part of the array needs it.
 pub fn no_values() -> [u64; 508]
     ensures value { 508 ≡ length result }

@@ -1,7 +1,7 @@
 //! A plain version of what the box computes, to compare the proved one with. It was written from document 01, by people who had read the Rattle, and
-//! from document 02, e), a), j), d), l) and c) (damaged synchronising bits, the area safety edition, where a record came from, doubtful marks, the day's
-//! ledger, and the extension area), each by one who had not read the proved version: the two have no code in common, but what was read wrongly in the
-//! documents may be wrong in both.
+//! from document 02, e), a), j), d) and l) (damaged synchronising bits, the area safety edition, where a record came from, doubtful marks, and the
+//! day's ledger), each by one who had not read the proved version: the two have no code in common, but what was read wrongly in the documents may be
+//! wrong in both.
 pub mod capture;
 pub mod code;
 pub mod crc;

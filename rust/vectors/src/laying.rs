@@ -1,6 +1,6 @@
 //! A frame laid into a header, and taken out.
 use crate::frames::{frame, frames};
-use crate::headers::{filled, filled_split, flipped, model_header, split_flipped, written, Bytes};
+use crate::headers::{filled, flipped, model_header, written, Bytes};
 use crate::{apart, because, by_both, edition_of, status, Case, Lends, Operation};
 use crate::{AREA_SAFETY, FIRST};
 use reference::header::{lay_in, take_out};
@@ -33,7 +33,7 @@ pub(crate) fn cases() -> Vec<Case> {
             refused(),
         ),
         because(
-            "a frame over another one, and taken out twice, in an unused header and in split ones of both forms: nothing else changes",
+            "a frame over another one, and taken out twice: nothing else changes",
             turns(),
         ),
     ]
@@ -75,55 +75,29 @@ fn safety() -> Vec<Case> {
 
 /// A good frame, one of area safety information and a refused one into headers that are refused, and taking out of them.
 fn refused() -> Vec<Case> {
-    let (base, request) = ("document 01's rules", "document 02, c)");
-    // The bits of "one carrier" are the two lowest of the number of carriers.
-    let headers: [(&str, Bytes, usize, [&str; 2]); 8] = [
-        (
-            "a header of 187 bytes",
-            flipped(&[], true),
-            187,
-            [base, "1:.."],
-        ),
-        ("a header of none", flipped(&[], true), 0, [base, "1"]),
-        ("byte 0 wrong", flipped(&[7], true), 188, [base, "c:.."]),
-        ("CRC wrong", flipped(&[1503], false), 188, [base, "d:.."]),
-        ("form 3", flipped(&[54], true), 188, [base, "e:.."]),
-        ("the fixed bit 0", flipped(&[71], true), 188, [base, "f:.."]),
-        (
-            "form 2, unused",
-            flipped(&[54, 55], true),
-            188,
-            [request, "10:.."],
-        ),
-        (
-            "one carrier",
-            split_flipped(1, &[1030, 1031]),
-            188,
-            [request, "10:.."],
-        ),
+    let headers: [(&str, &[usize], bool, usize); 6] = [
+        ("a header of 187 bytes", &[], true, 187),
+        ("a header of none", &[], true, 0),
+        ("byte 0 wrong", &[7], true, 188),
+        ("CRC wrong", &[1503], false, 188),
+        ("form 2", &[54, 55], true, 188),
+        ("the fixed bit 0", &[71], true, 188),
     ];
     let mut cases = vec![];
-    for (what, header, n, [from, answer]) in headers {
-        let header = &header[..n];
-        let case =
-            |name: &str| lay(format!("{what}, {name}"), header, &frame(name)).known(from, answer);
+    for (what, places, again, n) in headers {
+        let header = &flipped(places, again)[..n];
+        let case = |name: &str| lay(format!("{what}, {name}"), header, &frame(name));
         cases.extend(by_both(
             &["all areas", "no pattern", "area safety"].map(case),
         ));
-        let taken = Case::new("take_out", what).lent(header);
-        cases.push(taken.known(from, answer));
+        cases.push(Case::new("take_out", what).lent(header));
     }
     cases
 }
 
 /// The headers that frames are laid into in turn.
-pub(crate) fn headers() -> [(&'static str, Bytes); 4] {
-    [
-        ("model", model_header()),
-        ("filled", written(&filled())),
-        ("split form 1", split_flipped(1, &[])),
-        ("filled split form 2", written(&filled_split(2))),
-    ]
+pub(crate) fn headers() -> [(&'static str, Bytes); 2] {
+    [("model", model_header()), ("filled", written(&filled()))]
 }
 
 /// Frames laid into a header in turn by the edition with this number, and the header after that.

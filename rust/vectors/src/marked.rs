@@ -511,23 +511,21 @@ fn buffers(marked: &Marked) -> Vec<Case> {
 
 /// A good frame with marks that are good, too many or none, and a refused frame, into headers that are refused.
 fn headers() -> Vec<Case> {
-    let (base, request) = ("document 01's rules", "document 02, c)");
-    let headers: [(&str, &[usize], bool, [&str; 2]); 5] = [
-        ("byte 0 wrong", &[7], true, [base, "c:.."]),
-        ("CRC wrong", &[1503], false, [base, "d:.."]),
-        ("form 3", &[54], true, [base, "e:.."]),
-        ("the fixed bit 0", &[71], true, [base, "f:.."]),
-        ("form 2, unused", &[54, 55], true, [request, "10:.."]),
+    let headers: [(&str, &[usize], bool, &str); 4] = [
+        ("byte 0 wrong", &[7], true, "c:.."),
+        ("CRC wrong", &[1503], false, "d:.."),
+        ("form 2", &[54, 55], true, "e:.."),
+        ("the fixed bit 0", &[71], true, "f:.."),
     ];
     let mut cases = vec![];
-    for (what, places, again, [from, answer]) in headers {
+    for (what, places, again, answer) in headers {
         let header = flipped(places, again);
         let mut lay = |name: &str, s: usize, marks_len: usize| {
             let (received, mut marks) = damaged(&frame(name), (0, s), 11, Under::TurnedOver);
             marks.truncate(marks_len);
             let what = format!("{what}, {name} {s} marks in {marks_len} bytes");
             let case = Marked::new(what, &received, &marks).lay(&header);
-            cases.extend(by_both(&[case.known(from, answer)]));
+            cases.extend(by_both(&[case.known("document 01's rules", answer)]));
         };
         lay("all areas:", 17, FRAME_BYTES);
         lay("all areas:", 18, FRAME_BYTES);

@@ -1,15 +1,13 @@
 -- `abi_header::header_write` meets its contract. Assumes nothing.
 use mathlib.Core.Path.{refl}
-use mathlib.Core.List.{List}
-use Prim.Native.Nat.{ℕ}
 use borrow.Author.Rules.{rules}
+use Rattle.header.specs.Header.{writeNumber, writeOf}
 use Rattle.abi.proofs.Writing.{Written, write-wrong, write-answered}
-use Rattle.abi_header.specs.Header.{valuesNumber, values_of, headerWriteStatus, headerWriteBytes}
+use Rattle.abi_header.specs.Header.{headerFrom, headerWriteStatus, headerWriteBytes}
 use Rattle.abi_header.proofs.header_write.Statement.{statement}
 use Rattle.abi_header.proofs.header_write.Tie as tie
 
--- what is written is the values themselves
-written : Written 205 (λ (v : List ℕ). v) valuesNumber values_of headerWriteStatus headerWriteBytes
+written : Written 145 headerFrom writeNumber writeOf headerWriteStatus headerWriteBytes
 unfolding headerWriteStatus headerWriteBytes
 written = record { is-status = λ v s. refl; is-buffer = λ v s. refl }
 
@@ -19,8 +17,9 @@ returns c = write-wrong written _ _ c.before.if1.true c.status.ensures refl
 returns-2 : tie.Need-returns-2
 returns-2 c =
     let write = c.before.before.before in
-    write-answered written _ _ write.before.before.if1.false refl write.write-values.ensures.0 c.status2.ensures write.write-values.ensures.1
+    let from = write.before.before in
+    write-answered written _ _ from.before.if1.false from.header-from.ensures write.write.ensures.0 c.status2.ensures write.write.ensures.1
 
 pub header-write-spec : {M : Type 1} → statement M
 header-write-spec =
-    tie.close (tie.spec (λ c κs. search rules) returns (λ c κs. search rules) (λ c κs. search rules) (λ c. search rules) returns-2)
+    tie.close (tie.spec (λ c κs. search rules) returns (λ c κs. search rules) (λ c κs. search rules) (λ c κs. search rules) (λ c. search rules) returns-2)

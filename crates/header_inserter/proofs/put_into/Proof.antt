@@ -8,7 +8,7 @@ use borrow.Author.Rules.{rules}
 use Rattle.bits.specs.Layout.{pack}
 use Rattle.bits.proofs.Slices.{rest-lent}
 use Rattle.header_tables.specs.AcTables.{acWidths}
-use Rattle.extension_writer.specs.AcBits.{withFirst}
+use Rattle.header_inserter.specs.AcBits.{withFirst}
 use Rattle.header_inserter.proofs.AcValues.{header-written}
 use Rattle.header_inserter.proofs.put_into.Statement.{statement}
 use Rattle.header_inserter.proofs.put_into.Tie as tie

@@ -5,8 +5,10 @@ use lib.ListN.{length, length-take, length-drop}
 use borrow.Author.Rules.{rules}
 use Rattle.header.specs.Layout.{frontLayout}
 use Rattle.header.specs.Fields.{frontOf}
+use Rattle.header.specs.Tests.{slotBitWrong}
 use Rattle.header.specs.Header.{frontIn}
-use Rattle.header_tables.proofs.Rows.{front-row, read-room, part-read}
+use Rattle.header_tables.proofs.Rows.{front-row, read-room}
+use Rattle.header_reader.proofs.FieldsRead.{part-read}
 use Rattle.header_reader.proofs.find_front.Statement.{statement}
 use Rattle.header_reader.proofs.find_front.Tie as tie
 
@@ -18,7 +20,7 @@ read-fields-requires c κs =
     read-room frontLayout _ _ k.front-kinds.ensures w.front-widths.ensures 99 119 _ _ front-row (simp (length-take, length-drop) (omega (arith, k.before.before.requires))) (ap length z.zeros119.ensures)
 
 returns : tie.Need-returns
-unfolding frontIn
+unfolding frontIn slotBitWrong
 returns c =
     let r = c.before.before.before in
     let w = r.before.before.before.before.before.before in

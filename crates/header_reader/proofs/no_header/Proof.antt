@@ -2,7 +2,6 @@
 use mathlib.Core.Path.{◌∙◌, ap}
 use Rattle.header.specs.Fields.{frontOf, extensionOf}
 use Rattle.header.specs.Header.{no_header}
-use Rattle.header.specs.declared.Fill.TheVariants.{Unused}
 use Rattle.header_reader.proofs.Zeros.{front-zeros, extension-zeros}
 use borrow.Author.Rules.{rules}
 use Rattle.header_reader.proofs.no_header.Statement.{statement}
@@ -14,8 +13,8 @@ zeros119-requires c κs = search rules
 front-of-requires : tie.Need-front-of-requires
 front-of-requires c κs = search rules
 
-zeros85-requires : tie.Need-zeros85-requires
-zeros85-requires c κs = search rules
+zeros26-requires : tie.Need-zeros26-requires
+zeros26-requires c κs = search rules
 
 extension-of-requires : tie.Need-extension-of-requires
 extension-of-requires c κs = search rules
@@ -24,11 +23,11 @@ returns : tie.Need-returns
 unfolding no_header
 returns c =
     let f = c.before.before.before in
-    let e = c.extension-of.ensures ∙ ap (extensionOf Unused) c.before.before.zeros85.ensures ∙ extension-zeros Unused in
+    let e = c.extension-of.ensures ∙ ap extensionOf c.before.before.zeros26.ensures ∙ extension-zeros in
     let g = f.front_of.ensures ∙ ap frontOf f.before.before.zeros119.ensures ∙ front-zeros in
     λ i. record { front = g i; extension = e i }
 
 pub no-header-spec : {M : Type 1} → statement M
 no-header-spec =
     tie.close
-    (tie.spec zeros119-requires front-of-requires zeros85-requires extension-of-requires returns)
+    (tie.spec zeros119-requires front-of-requires zeros26-requires extension-of-requires returns)

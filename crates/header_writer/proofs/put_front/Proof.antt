@@ -7,7 +7,7 @@ use Rattle.bits.specs.Bits.{bytes}
 use Rattle.bits.specs.Segment.{packSegments}
 use Rattle.header.specs.Layout.{frontLayout}
 use Rattle.header_tables.proofs.Rows.{front-row}
-use Rattle.header_tables.proofs.FieldsWritten.{write-room, written}
+use Rattle.header_writer.proofs.FieldsWritten.{write-room, written}
 use borrow.Author.Rules.{rules}
 use Rattle.header_writer.proofs.put_front.Statement.{statement}
 use Rattle.header_writer.proofs.put_front.Tie as tie

@@ -4,8 +4,11 @@ use mathlib.Core.List.{◌++◌}
 use Prim.Native.Nat.{◌-◌}
 use native.Mathlib.Omega.{arith}
 use lib.ListN.{length, take, drop}
+use Rattle.bits.specs.Bits.{bytes}
+use Rattle.bits.specs.Segment.{packSegments}
 use Rattle.bits.proofs.Slices.{rest-lent}
-use Rattle.header.specs.Header.{extensionBytes}
+use Rattle.header.specs.Layout.{extensionLayout}
+use Rattle.header.specs.Fields.{extensionFields}
 use Rattle.header_writer.proofs.Writing.{short-number, record-number, buffer-kept, buffer-written, header-written}
 use borrow.Author.Rules.{rules}
 use Rattle.header_writer.proofs.write.Statement.{statement}
@@ -32,17 +35,17 @@ returns-2 c =
 put-front-requires : tie.Need-put-front-requires
 put-front-requires c κs = search rules
 
-sub-put : tie.Need-overflow-sub-put
-sub-put c = search rules
+sub-put-extension : tie.Need-overflow-sub-put-extension
+sub-put-extension c = search rules
 
-part-put-start : tie.Need-slice-bounds-put-start
-part-put-start c = search rules
+part-put-extension-start : tie.Need-slice-bounds-put-extension-start
+part-put-extension-start c = search rules
 
-part-put-end : tie.Need-slice-bounds-put-end
-part-put-end c = search rules
+part-put-extension-end : tie.Need-slice-bounds-put-extension-end
+part-put-extension-end c = search rules
 
-put-requires : tie.Need-put-requires
-put-requires c κs = search rules
+put-extension-requires : tie.Need-put-extension-requires
+put-extension-requires c κs = search rules
 
 seal-requires : tie.Need-seal-requires
 seal-requires c κs = search rules
@@ -58,11 +61,11 @@ returns-3 c =
     let z = c.before.before.before.before.before.before.before.before.before.before.before.before.if2.false in
     let n = record-number a.header (length s) r.result c.before.before.before.before.before.before.before.before.before.before.before.before.before.before.if1.false r.ensures in
     let front = c.before.before.before.before.before.before.before.before.before.before.put_front in
-    let extension = c.before.before.before.before.before.before.put in
+    let extension = c.before.before.before.before.before.before.put-extension in
     let seal = c.before.before.seal in
     let v₁ = front.new.0 in
     let v₂ = take 99 v₁ ++ (extension.new.0 ++ drop (length v₁ - 99) (drop 99 v₁)) in
-    let q = extensionBytes a.header.extension in
+    let q = bytes 85 (packSegments extensionLayout (extensionFields a.header.extension)) in
     let e = rest-lent (λ x. q ++ drop 85 x) v₁ v₂ extension.new.0 99 extension.ensures refl in
     (sym z ∙ n, buffer-written a.header s seal.new.0 r.result n z (header-written a.header s v₁ v₂ seal.new.0 front.ensures e seal.ensures))
 
@@ -74,10 +77,10 @@ write_spec =
     record-refusal-requires
     returns-2
     put-front-requires
-    sub-put
-    part-put-start
-    part-put-end
-    put-requires
+    sub-put-extension
+    part-put-extension-start
+    part-put-extension-end
+    put-extension-requires
     seal-requires
     same_length
     returns-3)

@@ -1,2 +1,0 @@
-pub mod Unused
-pub mod Extensions
