@@ -2,5 +2,5 @@
 use Rattle.std.specs.Prelude.{ℕ, ◌+◌, ◌*◌}
 
 -- document 01's number in the low 8 bits, 0 where nothing was refused, and above them what else is told
-abbrev pub statusOf : (number more : ℕ) → ℕ
-statusOf number more = number + 256 * more
+abbrev pub status_of : (number more : ℕ) → ℕ
+status_of number more = number + 256 * more

@@ -1,10 +1,10 @@
 // What the functions over plain numbers and slices share, as a C program can call them.
 ghost use Rattle.std.specs.Prelude.{◌≡◌, length};
-ghost use Rattle.abi.specs.Status.{statusOf};
+ghost use Rattle.abi.specs.Status.{status_of};
 
 // A status: the refusal's number, and what else is told.
 pub fn status(number: u8, more: u8) -> u32
-    ensures { result ≡ statusOf number more }
+    ensures { result ≡ status_of number more }
 {
     number as u32 + 256 * (more as u32)
 }

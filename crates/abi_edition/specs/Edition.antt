@@ -4,5 +4,5 @@ use Rattle.frame.specs.declared.Edition.{Edition}
 use Rattle.frame.specs.declared.Edition.TheVariants.{First, AreaSafety}
 
 -- 0 the first edition, 1 the area safety edition; any other number is taken for the first
-unfoldable pub editionOf : ℕ → Edition
-editionOf n = cond (eqb n 1) AreaSafety First
+unfoldable pub edition_of : ℕ → Edition
+edition_of n = cond (eqb n 1) AreaSafety First

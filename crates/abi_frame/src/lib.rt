@@ -2,10 +2,10 @@
 // numbers, and a record is its values in their order.
 ghost use Rattle.std.specs.Prelude.{◌≡◌, ◌*◌, length};
 ghost use Rattle.dsc.specs.Marks.{unmarked};
-ghost use Rattle.abi_record.specs.Values.{valueCount};
-ghost use Rattle.abi_edition.specs.Edition.{editionOf};
-ghost use Rattle.abi_tuner.specs.Tuner.{tunerOf};
-ghost use Rattle.abi_frame.specs.Frame.{readingStatus, readingValues, frameReadStatus, frameReadRecord, frameWriteStatus, frameWriteBytes, warnedStatus};
+ghost use Rattle.abi_record.specs.Values.{value_count};
+ghost use Rattle.abi_edition.specs.Edition.{edition_of};
+ghost use Rattle.abi_tuner.specs.Tuner.{tuner_of};
+ghost use Rattle.abi_frame.specs.Frame.{reading_status, reading_values, frame_read_status, frame_read_record, frame_write_status, frame_write_bytes, warned_status};
 
 use abi_record::VALUES;
 use frame::Reading;
@@ -20,9 +20,9 @@ fn accepted_status(differing: u8) -> u32
 
 // What was read, told: the record's values where the frame is accepted. It requires the buffer's length, since its callers have tested it.
 pub fn put_reading(reading: Reading, values: &mut [u64]) -> u32
-    requires { length values.old ≡ valueCount }
-    ensures status { result ≡ readingStatus reading }
-    ensures values { values.new ≡ readingValues reading values.old }
+    requires { length values.old ≡ value_count }
+    ensures status { result ≡ reading_status reading }
+    ensures values { values.new ≡ reading_values reading values.old }
 {
     match reading {
         Reading::Accepted(message, differing) => {
@@ -35,8 +35,8 @@ pub fn put_reading(reading: Reading, values: &mut [u64]) -> u32
 
 // Reads a frame, told the tuner; the record's values where it is accepted.
 pub fn frame_read(edition: u32, tuner: u32, frame: &[u8], values: &mut [u64]) -> u32
-    ensures status { result ≡ frameReadStatus (editionOf edition) unmarked (tunerOf tuner) frame.now values.old }
-    ensures values { values.new ≡ frameReadRecord (editionOf edition) unmarked (tunerOf tuner) frame.now values.old }
+    ensures status { result ≡ frame_read_status (edition_of edition) unmarked (tuner_of tuner) frame.now values.old }
+    ensures values { values.new ≡ frame_read_record (edition_of edition) unmarked (tuner_of tuner) frame.now values.old }
 {
     if values.len() != VALUES {
         return abi::status(1, 0);
@@ -48,8 +48,8 @@ pub fn frame_read(edition: u32, tuner: u32, frame: &[u8], values: &mut [u64]) ->
 
 // Writes the frame of a record.
 pub fn frame_write(edition: u32, values: &[u64], frame: &mut [u8]) -> u32
-    ensures status { result ≡ frameWriteStatus (editionOf edition) values.now frame.old }
-    ensures frame { frame.new ≡ frameWriteBytes (editionOf edition) values.now frame.old }
+    ensures status { result ≡ frame_write_status (edition_of edition) values.now frame.old }
+    ensures frame { frame.new ≡ frame_write_bytes (edition_of edition) values.now frame.old }
 {
     if values.len() != VALUES {
         return abi::status(1, 0);
@@ -64,7 +64,7 @@ pub fn frame_write(edition: u32, values: &[u64], frame: &mut [u8]) -> u32
 
 // Whether an area of a record is warned: 1 above the number where it is.
 pub fn warned(values: &[u64], area: u64) -> u32
-    ensures { result ≡ warnedStatus values.now area }
+    ensures { result ≡ warned_status values.now area }
 {
     if values.len() != VALUES {
         return abi::status(1, 0);

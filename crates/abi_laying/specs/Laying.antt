@@ -2,13 +2,13 @@
 use Rattle.std.specs.Prelude.{List, ℕ}
 use Rattle.dsc.specs.Marks.{Marking}
 use Rattle.frame.specs.declared.Edition.{Edition}
-use Rattle.header.specs.Header.{headerRefusal}
-use Rattle.header_laying.specs.Laying.{layInNumber}
-use Rattle.abi.specs.Status.{statusOf}
+use Rattle.header.specs.Header.{header_refusal}
+use Rattle.header_laying.specs.Laying.{lay_in_number}
+use Rattle.abi.specs.Status.{status_of}
 
 -- laying in and taking out tell their number alone
-abbrev pub layInStatus : Edition → Marking → (h f : List ℕ) → ℕ
-layInStatus ed q h f = statusOf (layInNumber ed q h f) 0
+abbrev pub lay_in_status : Edition → Marking → (h f : List ℕ) → ℕ
+lay_in_status ed q h f = status_of (lay_in_number ed q h f) 0
 
-abbrev pub takeOutStatus : List ℕ → ℕ
-takeOutStatus h = statusOf (headerRefusal h) 0
+abbrev pub take_out_status : List ℕ → ℕ
+take_out_status h = status_of (header_refusal h) 0

@@ -2,44 +2,44 @@
 use Rattle.std.specs.Prelude.{cond, List, ℕ, eqb, length}
 use Rattle.frame.specs.declared.Edition.{Edition}
 use Rattle.ledger.specs.Counting.{count_of}
-use Rattle.ledger.specs.Report.{numbersOf, lengthNumber, length_of, printNumber, printOf, ledgerFrom, parseOf}
+use Rattle.ledger.specs.Report.{numbers_of, length_number, length_of, print_number, print_of, ledger_from, parse_of}
 use Rattle.ledger.specs.declared.LedgerAnswer.{LedgerAnswer}
-use Rattle.abi.specs.Status.{statusOf}
+use Rattle.abi.specs.Status.{status_of}
 
 -- a ledger is 12 numbers: of another length it is refused with 1, before anything else
-abbrev pub ofTwelve : List ℕ → ℕ → ℕ
-ofTwelve ns status = cond (eqb (length ns) 12) status 1
+abbrev pub of_twelve : List ℕ → ℕ → ℕ
+of_twelve ns status = cond (eqb (length ns) 12) status 1
 
 -- what is left in a buffer b that is lent beside it: b itself where it is refused so
-abbrev pub leftBeside : (ns written b : List ℕ) → List ℕ
-leftBeside ns written b = cond (eqb (length ns) 12) written b
+abbrev pub left_beside : (ns written b : List ℕ) → List ℕ
+left_beside ns written b = cond (eqb (length ns) 12) written b
 
 -- an answer tells its number alone
-abbrev pub answerStatus : LedgerAnswer → ℕ
-answerStatus a = statusOf a.number 0
+abbrev pub answer_status : LedgerAnswer → ℕ
+answer_status a = status_of a.number 0
 
 -- and leaves the numbers as they are where it is a refusal
-abbrev pub answerNumbers : LedgerAnswer → List ℕ → List ℕ
-answerNumbers a ns = cond (eqb a.number 0) (numbersOf a.ledger) ns
+abbrev pub answer_numbers : LedgerAnswer → List ℕ → List ℕ
+answer_numbers a ns = cond (eqb a.number 0) (numbers_of a.ledger) ns
 
-unfoldable pub countStatus : Edition → (ns f : List ℕ) → ℕ
-countStatus ed ns f = ofTwelve ns (answerStatus (count_of (ledgerFrom ns) (ed, f)))
+unfoldable pub count_status : Edition → (ns f : List ℕ) → ℕ
+count_status ed ns f = of_twelve ns (answer_status (count_of (ledger_from ns) (ed, f)))
 
-unfoldable pub countNumbers : Edition → (ns f : List ℕ) → List ℕ
-countNumbers ed ns f = leftBeside ns (answerNumbers (count_of (ledgerFrom ns) (ed, f)) ns) ns
+unfoldable pub count_numbers : Edition → (ns f : List ℕ) → List ℕ
+count_numbers ed ns f = left_beside ns (answer_numbers (count_of (ledger_from ns) (ed, f)) ns) ns
 
 -- the number, and 256 times the bytes of the report
-unfoldable pub lengthStatus : List ℕ → ℕ
-lengthStatus ns = ofTwelve ns (statusOf (lengthNumber (ledgerFrom ns)) (length_of (ledgerFrom ns)))
+unfoldable pub length_status : List ℕ → ℕ
+length_status ns = of_twelve ns (status_of (length_number (ledger_from ns)) (length_of (ledger_from ns)))
 
-unfoldable pub printStatus : (ns text : List ℕ) → ℕ
-printStatus ns text = ofTwelve ns (statusOf (printNumber (ledgerFrom ns) (length text)) 0)
+unfoldable pub print_status : (ns text : List ℕ) → ℕ
+print_status ns text = of_twelve ns (status_of (print_number (ledger_from ns) (length text)) 0)
 
-unfoldable pub printText : (ns text : List ℕ) → List ℕ
-printText ns text = leftBeside ns (printOf (ledgerFrom ns) text) text
+unfoldable pub print_text : (ns text : List ℕ) → List ℕ
+print_text ns text = left_beside ns (print_of (ledger_from ns) text) text
 
-unfoldable pub parseStatus : (text ns : List ℕ) → ℕ
-parseStatus text ns = ofTwelve ns (answerStatus (parseOf text))
+unfoldable pub parse_status : (text ns : List ℕ) → ℕ
+parse_status text ns = of_twelve ns (answer_status (parse_of text))
 
-unfoldable pub parseNumbers : (text ns : List ℕ) → List ℕ
-parseNumbers text ns = leftBeside ns (answerNumbers (parseOf text) ns) ns
+unfoldable pub parse_numbers : (text ns : List ℕ) → List ℕ
+parse_numbers text ns = left_beside ns (answer_numbers (parse_of text) ns) ns

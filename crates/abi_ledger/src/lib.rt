@@ -1,15 +1,15 @@
 // The day's ledger over plain numbers and slices, as a C program can call it: a ledger is its 12 numbers in the order of the report.
 ghost use Rattle.std.specs.Prelude.{◌≡◌, length};
-ghost use Rattle.abi_edition.specs.Edition.{editionOf};
-ghost use Rattle.abi_ledger.specs.Ledger.{answerStatus, answerNumbers, countStatus, countNumbers, lengthStatus, printStatus, printText, parseStatus, parseNumbers};
+ghost use Rattle.abi_edition.specs.Edition.{edition_of};
+ghost use Rattle.abi_ledger.specs.Ledger.{answer_status, answer_numbers, count_status, count_numbers, length_status, print_status, print_text, parse_status, parse_numbers};
 
 use ledger::LedgerAnswer;
 
 // An answer told: the ledger's numbers where nothing is refused. It requires the buffer's length, since its callers have tested it.
 fn put_answer(answer: LedgerAnswer, numbers: &mut [u64]) -> u32
     requires { length numbers.old ≡ 12 }
-    ensures status { result ≡ answerStatus answer }
-    ensures numbers { numbers.new ≡ answerNumbers answer numbers.old }
+    ensures status { result ≡ answer_status answer }
+    ensures numbers { numbers.new ≡ answer_numbers answer numbers.old }
 {
     if answer.number != 0 {
         return abi::status(answer.number, 0);
@@ -21,8 +21,8 @@ fn put_answer(answer: LedgerAnswer, numbers: &mut [u64]) -> u32
 
 // Counts a frame, judged by the edition named.
 pub fn ledger_count(edition: u32, numbers: &mut [u64], frame: &[u8]) -> u32
-    ensures status { result ≡ countStatus (editionOf edition) numbers.old frame.now }
-    ensures numbers { numbers.new ≡ countNumbers (editionOf edition) numbers.old frame.now }
+    ensures status { result ≡ count_status (edition_of edition) numbers.old frame.now }
+    ensures numbers { numbers.new ≡ count_numbers (edition_of edition) numbers.old frame.now }
 {
     if numbers.len() != 12 {
         return abi::status(1, 0);
@@ -36,7 +36,7 @@ pub fn ledger_count(edition: u32, numbers: &mut [u64], frame: &[u8]) -> u32
 
 // How many bytes the report has: they stand above the number.
 pub fn ledger_length(numbers: &[u64]) -> u32
-    ensures { result ≡ lengthStatus numbers.now }
+    ensures { result ≡ length_status numbers.now }
 {
     if numbers.len() != 12 {
         return abi::status(1, 0);
@@ -47,8 +47,8 @@ pub fn ledger_length(numbers: &[u64]) -> u32
 
 // Prints the report into a buffer of its size.
 pub fn ledger_print(numbers: &[u64], text: &mut [u8]) -> u32
-    ensures status { result ≡ printStatus numbers.now text.old }
-    ensures text { text.new ≡ printText numbers.now text.old }
+    ensures status { result ≡ print_status numbers.now text.old }
+    ensures text { text.new ≡ print_text numbers.now text.old }
 {
     if numbers.len() != 12 {
         return abi::status(1, 0);
@@ -59,8 +59,8 @@ pub fn ledger_print(numbers: &[u64], text: &mut [u8]) -> u32
 
 // Reads a report.
 pub fn ledger_parse(text: &[u8], numbers: &mut [u64]) -> u32
-    ensures status { result ≡ parseStatus text.now numbers.old }
-    ensures numbers { numbers.new ≡ parseNumbers text.now numbers.old }
+    ensures status { result ≡ parse_status text.now numbers.old }
+    ensures numbers { numbers.new ≡ parse_numbers text.now numbers.old }
 {
     if numbers.len() != 12 {
         return abi::status(1, 0);

@@ -1,11 +1,11 @@
 // Frames with doubtful marks over plain numbers and slices, as a C program can call them.
 ghost use Rattle.std.specs.Prelude.{◌≡◌, ◌+◌, ◌*◌};
 ghost use Rattle.dsc.specs.Marks.{marked};
-ghost use Rattle.abi.specs.Status.{statusOf};
-ghost use Rattle.abi_edition.specs.Edition.{editionOf};
-ghost use Rattle.abi_tuner.specs.Tuner.{tunerOf};
-ghost use Rattle.abi_frame.specs.Frame.{frameReadStatus, frameReadRecord};
-ghost use Rattle.abi_marked_frame.specs.Judged.{damageStatus, judgeMarkedStatus};
+ghost use Rattle.abi.specs.Status.{status_of};
+ghost use Rattle.abi_edition.specs.Edition.{edition_of};
+ghost use Rattle.abi_tuner.specs.Tuner.{tuner_of};
+ghost use Rattle.abi_frame.specs.Frame.{frame_read_status, frame_read_record};
+ghost use Rattle.abi_marked_frame.specs.Judged.{damage_status, judge_marked_status};
 
 use abi_record::VALUES;
 use frame::{Edition, Reading, Tuner};
@@ -18,8 +18,8 @@ pub fn frame_read_marked(
     marks: &[u8],
     values: &mut [u64],
 ) -> u32
-    ensures status { result ≡ frameReadStatus (editionOf edition) (marked marks.now) (tunerOf tuner) frame.now values.old }
-    ensures values { values.new ≡ frameReadRecord (editionOf edition) (marked marks.now) (tunerOf tuner) frame.now values.old }
+    ensures status { result ≡ frame_read_status (edition_of edition) (marked marks.now) (tuner_of tuner) frame.now values.old }
+    ensures values { values.new ≡ frame_read_record (edition_of edition) (marked marks.now) (tuner_of tuner) frame.now values.old }
 {
     if values.len() != VALUES {
         return abi::status(1, 0);
@@ -36,14 +36,14 @@ pub fn frame_read_marked(
 
 // A number with the repaired places above it and the differing bits above these.
 fn damage(number: u8, places: u8, differing: u8) -> u32
-    ensures { result ≡ statusOf number places + 65536 * differing }
+    ensures { result ≡ status_of number places + 65536 * differing }
 {
     abi::status(number, places) + 65536 * (differing as u32)
 }
 
 // Judges a frame with its marks, by the first edition: the repaired unmarked places and the bits of B1 to B16 that differed stand above the number.
 pub fn frame_judge_marked(frame: &[u8], marks: &[u8]) -> u32
-    ensures { result ≡ judgeMarkedStatus frame.now marks.now }
+    ensures { result ≡ judge_marked_status frame.now marks.now }
 {
     match frame_marked_reader::read_marked(Edition::First, Tuner::None, frame, marks) {
         Reading::Accepted(message, differing) => damage(0, message.origin.repaired, differing),

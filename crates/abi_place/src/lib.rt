@@ -1,7 +1,7 @@
 // Places over plain numbers and slices, as a C program can call them: the edition is named by its number.
 ghost use Rattle.std.specs.Prelude.{◌≡◌};
-ghost use Rattle.abi_edition.specs.Edition.{editionOf};
-ghost use Rattle.abi_place.specs.Place.{reportStatus, reportPlace, deskStatus, deskFields};
+ghost use Rattle.abi_edition.specs.Edition.{edition_of};
+ghost use Rattle.abi_place.specs.Place.{report_status, report_place, desk_status, desk_fields};
 
 use abi_record::VALUES;
 use place::{Conversion, Place};
@@ -9,8 +9,8 @@ use report::Reported;
 
 // What a record reports: the case, and of a place its latitude, longitude and depth.
 pub fn report(edition: u32, values: &[u64], doubles: &mut [f64]) -> u32
-    ensures status { result ≡ reportStatus (editionOf edition) values.now doubles.old }
-    ensures doubles { doubles.new ≡ reportPlace (editionOf edition) values.now doubles.old }
+    ensures status { result ≡ report_status (edition_of edition) values.now doubles.old }
+    ensures doubles { doubles.new ≡ report_place (edition_of edition) values.now doubles.old }
 {
     if values.len() != VALUES {
         return abi::status(1, 0);
@@ -42,8 +42,8 @@ pub fn report(edition: u32, values: &[u64], doubles: &mut [f64]) -> u32
 
 // The field values of the desk's place: south, latitude, west, longitude, depth.
 pub fn desk(latitude: f64, longitude: f64, depth: f64, fields: &mut [u64]) -> u32
-    ensures status { result ≡ deskStatus latitude longitude depth fields.old }
-    ensures fields { fields.new ≡ deskFields latitude longitude depth fields.old }
+    ensures status { result ≡ desk_status latitude longitude depth fields.old }
+    ensures fields { fields.new ≡ desk_fields latitude longitude depth fields.old }
 {
     if fields.len() != 5 {
         return abi::status(1, 0);

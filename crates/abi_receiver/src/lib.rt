@@ -1,14 +1,14 @@
 // The follower and the captures over plain numbers and slices, as a C program can call them: the edition is named by its number.
 ghost use Rattle.std.specs.Prelude.{◌≡◌, ◌<◌};
-ghost use Rattle.follower.specs.Follow.{eventNumber};
-ghost use Rattle.abi.specs.Status.{statusOf};
-ghost use Rattle.abi_edition.specs.Edition.{editionOf};
-ghost use Rattle.abi_receiver.specs.Receiver.{stateNumber, state_of, eventCase, stepStatus, followStatus, captureSource, captureNumbers};
+ghost use Rattle.follower.specs.Follow.{event_number};
+ghost use Rattle.abi.specs.Status.{status_of};
+ghost use Rattle.abi_edition.specs.Edition.{edition_of};
+ghost use Rattle.abi_receiver.specs.Receiver.{state_number, state_of, event_case, step_status, follow_status, capture_source, capture_numbers};
 
 use follower::{Event, Follower, Step};
 
 fn state_number(state: Follower) -> u32
-    ensures { result ≡ stateNumber state }
+    ensures { result ≡ state_number state }
 {
     match state {
         Follower::Quiet => 0,
@@ -32,7 +32,7 @@ fn state_of(number: u32) -> Follower
 }
 
 fn event_status(event: Event) -> u32
-    ensures status { result ≡ statusOf (eventNumber event) (eventCase event) }
+    ensures status { result ≡ status_of (event_number event) (event_case event) }
     ensures small { result < 65536 }
 {
     match event {
@@ -47,7 +47,7 @@ fn event_status(event: Event) -> u32
 }
 
 fn step_status(step: Step) -> u32
-    ensures { result ≡ stepStatus step }
+    ensures { result ≡ step_status step }
 {
     let event = step.event;
     let next = step.next;
@@ -56,14 +56,14 @@ fn step_status(step: Step) -> u32
 
 // Follows a frame from a state.
 pub fn follow(edition: u32, state: u32, frame: &[u8]) -> u32
-    ensures { result ≡ followStatus (editionOf edition) state frame.now }
+    ensures { result ≡ follow_status (edition_of edition) state frame.now }
 {
     step_status(frame_follower::step(abi_edition::edition_of(edition), state_of(state), frame))
 }
 
 // The tuner that frame n is taken from.
 pub fn capture_source(edition: u32, main: &[u8], spare: &[u8], n: u64) -> u32
-    ensures { result ≡ captureSource (editionOf edition) main.now spare.now n }
+    ensures { result ≡ capture_source (edition_of edition) main.now spare.now n }
 {
     abi_tuner::tuner_number(capture::source(
         abi_edition::edition_of(edition),
@@ -75,7 +75,7 @@ pub fn capture_source(edition: u32, main: &[u8], spare: &[u8], n: u64) -> u32
 
 // Both tuners' numbers for frame n.
 pub fn capture_numbers(edition: u32, main: &[u8], spare: &[u8], n: u64) -> u32
-    ensures { result ≡ captureNumbers (editionOf edition) main.now spare.now n }
+    ensures { result ≡ capture_numbers (edition_of edition) main.now spare.now n }
 {
     let numbers = capture::numbers(abi_edition::edition_of(edition), main, spare, n as usize);
     abi::status(numbers.main, numbers.spare)

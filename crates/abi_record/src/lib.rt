@@ -1,7 +1,7 @@
 // A frame's record over plain numbers: its fields in their order, then the tuner's number and the number of repaired places. Both functions require that
 // there are as many values as a record has: their callers have tested the length of what they were lent.
 ghost use Rattle.std.specs.Prelude.{◌≡◌, length};
-ghost use Rattle.abi_record.specs.Values.{valueCount, values_of, recordAt};
+ghost use Rattle.abi_record.specs.Values.{value_count, values_of, record_at};
 
 use frame::{FIELDS, Origin, Record};
 
@@ -14,7 +14,7 @@ const REPAIRED: usize = 20;
 
 // The values of a record.
 pub fn put_record(contents: Record, values: &mut [u64])
-    requires { length values.old ≡ valueCount }
+    requires { length values.old ≡ value_count }
     ensures { values.new ≡ values_of contents }
 {
     let fields = frame_fields::fields_of(contents);
@@ -27,8 +27,8 @@ pub fn put_record(contents: Record, values: &mut [u64])
 
 // The record that has these values. No rule looks at where it came from: of the number of repaired places the low 8 bits are kept.
 pub fn record_at(values: &[u64]) -> Record
-    requires { length values.now ≡ valueCount }
-    ensures { result ≡ recordAt values.now }
+    requires { length values.now ≡ value_count }
+    ensures { result ≡ record_at values.now }
 {
     let origin = Origin {
         tuner: abi_tuner::tuner_of(values[TUNER]),

@@ -2,9 +2,9 @@
 // and with doubtful marks.
 ghost use Rattle.std.specs.Prelude.{◌≡◌, length};
 ghost use Rattle.dsc.specs.Marks.{unmarked, marked};
-ghost use Rattle.dsc.specs.Repair.{outcomeNumber, outcomePlaces, leftIn};
-ghost use Rattle.abi.specs.Status.{statusOf};
-ghost use Rattle.abi_repair.specs.Repair.{repairStatus, repairWord};
+ghost use Rattle.dsc.specs.Repair.{outcome_number, outcome_places, left_in};
+ghost use Rattle.abi.specs.Status.{status_of};
+ghost use Rattle.abi_repair.specs.Repair.{repair_status, repair_word};
 
 use dsc::{Answer, Outcome};
 
@@ -13,7 +13,7 @@ const WORD_BYTES: usize = 26;
 
 // An outcome as a status.
 fn status_of(outcome: Outcome) -> u32
-    ensures { result ≡ statusOf (outcomeNumber outcome) (outcomePlaces outcome) }
+    ensures { result ≡ status_of (outcome_number outcome) (outcome_places outcome) }
 {
     match outcome {
         Outcome::Repaired(places) => abi::status(0, places),
@@ -24,7 +24,7 @@ fn status_of(outcome: Outcome) -> u32
 // An answer's word into the buffer where it is a repair.
 fn put_answer(answer: Answer, word: &mut [u8])
     requires { length answer.word ≡ length word.old }
-    ensures { word.new ≡ leftIn answer word.old }
+    ensures { word.new ≡ left_in answer word.old }
 {
     let outcome = answer.outcome;
     match outcome {
@@ -38,8 +38,8 @@ fn put_answer(answer: Answer, word: &mut [u8])
 
 // The repaired word, B17 to B203 at their places and 0 elsewhere, into 26 bytes.
 pub fn repair(frame: &[u8], word: &mut [u8]) -> u32
-    ensures value { result ≡ repairStatus unmarked frame.now word.old }
-    ensures word_after { word.new ≡ repairWord unmarked frame.now word.old }
+    ensures value { result ≡ repair_status unmarked frame.now word.old }
+    ensures word_after { word.new ≡ repair_word unmarked frame.now word.old }
 {
     if word.len() != WORD_BYTES {
         return abi::status(1, 0);
@@ -50,8 +50,8 @@ pub fn repair(frame: &[u8], word: &mut [u8]) -> u32
 
 // The same by the second engine, the register: slower, for comparison.
 pub fn repair_register(frame: &[u8], word: &mut [u8]) -> u32
-    ensures value { result ≡ repairStatus unmarked frame.now word.old }
-    ensures word_after { word.new ≡ repairWord unmarked frame.now word.old }
+    ensures value { result ≡ repair_status unmarked frame.now word.old }
+    ensures word_after { word.new ≡ repair_word unmarked frame.now word.old }
 {
     if word.len() != WORD_BYTES {
         return abi::status(1, 0);
@@ -64,8 +64,8 @@ pub fn repair_register(frame: &[u8], word: &mut [u8]) -> u32
 
 // The repair with marks: the number of unmarked places in which the word differs stands above the number.
 pub fn repair_marked(frame: &[u8], marks: &[u8], word: &mut [u8]) -> u32
-    ensures value { result ≡ repairStatus (marked marks.now) frame.now word.old }
-    ensures word_after { word.new ≡ repairWord (marked marks.now) frame.now word.old }
+    ensures value { result ≡ repair_status (marked marks.now) frame.now word.old }
+    ensures word_after { word.new ≡ repair_word (marked marks.now) frame.now word.old }
 {
     if word.len() != WORD_BYTES {
         return abi::status(1, 0);

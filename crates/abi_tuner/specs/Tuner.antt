@@ -4,11 +4,11 @@ use Rattle.frame.specs.declared.Tuner.{Tuner}
 use Rattle.frame.specs.declared.Tuner.TheVariants.{None, Main, Spare}
 
 -- 0 none, 1 main, 2 spare
-abbrev pub tunerNumber : Tuner → ℕ
-tunerNumber None = 0
-tunerNumber Main = 1
-tunerNumber Spare = 2
+abbrev pub tuner_number : Tuner → ℕ
+tuner_number None = 0
+tuner_number Main = 1
+tuner_number Spare = 2
 
 -- any other number is taken for none
-unfoldable pub tunerOf : ℕ → Tuner
-tunerOf n = cond (eqb n 1) Main (cond (eqb n 2) Spare None)
+unfoldable pub tuner_of : ℕ → Tuner
+tuner_of n = cond (eqb n 1) Main (cond (eqb n 2) Spare None)

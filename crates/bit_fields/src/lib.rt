@@ -1,7 +1,7 @@
 // Bits of a row of bytes, most significant first: read and written as fields.
 ghost use Rattle.std.specs.Prelude.{◌≡◌, ◌+◌, ◌*◌, ◌≤◌, length};
 ghost use Rattle.bits.specs.Bits.{bits};
-ghost use Rattle.bits.specs.Field.{field_at, putBits, within, getOf, put_of};
+ghost use Rattle.bits.specs.Field.{field_at, put_bits, within, get_of, put_of};
 
 // The width bits from bit at on, as a number, one byte's part at a turn. The place is kept as a byte
 // and an offset in it, since eight times a length may not fit.
@@ -46,7 +46,7 @@ pub fn read_wide(s: &[u8], at: usize, width: usize) -> u64
 // The width bits from bit at on become the low bits of v. It requires that they are there, as `read_wide` does, for the same reason.
 pub fn write_field(s: &mut [u8], at: usize, width: usize, v: u64)
     requires { (width ≤ 64) × (at + width ≤ 8 * length s.old) }
-    ensures { bits s.new ≡ putBits s.old at width v }
+    ensures { bits s.new ≡ put_bits s.old at width v }
 {
     let first = at / 8;
     let off = at % 8;
@@ -79,7 +79,7 @@ fn inside(n: usize, at: usize, width: usize) -> bool
 
 // The field of width bits from bit at on; 0 where it does not lie in the bytes or has more than 64 bits.
 pub fn get(s: &[u8], at: usize, width: usize) -> u64
-    ensures { result ≡ getOf s.now at width }
+    ensures { result ≡ get_of s.now at width }
 {
     if inside(s.len(), at, width) {
         read_field(s, at, width)

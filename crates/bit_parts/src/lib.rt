@@ -1,7 +1,7 @@
 // Bits in a byte, most significant first, and bytes as numbers: what fields are read and written by.
 ghost use Rattle.std.specs.Prelude.{◌≡◌, false, ◌+◌, ◌*◌, ◌<◌, ◌≤◌, length, get_or};
 ghost use Rattle.bits.specs.Bits.{digit, bits};
-ghost use Rattle.bits.specs.Field.{field_at, putBits};
+ghost use Rattle.bits.specs.Field.{field_at, put_bits};
 
 // Bit r of byte q, 0 or 1. It requires that there is such a bit, so that a loop over bits pays for no test.
 pub fn bit(s: &[u8], q: usize, r: usize) -> u64
@@ -23,7 +23,7 @@ pub fn read_part(s: &[u8], q: usize, r: usize, n: usize) -> u64
 // The n bits from bit r of byte q on become the low bits of v. It requires what `read_part` does, for the same reason.
 pub fn write_part(s: &mut [u8], q: usize, r: usize, n: usize, v: u64)
     requires { (q < length s.old) × (r + n ≤ 8) }
-    ensures { bits s.new ≡ putBits s.old (8 * q + r) n v }
+    ensures { bits s.new ≡ put_bits s.old (8 * q + r) n v }
 {
     let old = read_part(s, q, r, n);
     let new = numbers::low_bits(v, n);

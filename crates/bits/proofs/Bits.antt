@@ -37,17 +37,17 @@ value-cons : (b : Bool) (bs : List Bool) → value (b ∷ bs) ≡ digit b * 2 ^ 
 unfolding value
 value-cons b bs = refl
 
-pub length-bitsOf : (w v : ℕ) → length (bits_of w v) ≡ w
+pub length-bits_of : (w v : ℕ) → length (bits_of w v) ≡ w
 unfolding bits_of
-length-bitsOf zero v = refl
-length-bitsOf (suc w) v = ap suc (length-bitsOf w v)
+length-bits_of zero v = refl
+length-bits_of (suc w) v = ap suc (length-bits_of w v)
 
-pub value-bitsOf : (w v : ℕ) → value (bits_of w v) ≡ v % 2 ^ w
+pub value-bits_of : (w v : ℕ) → value (bits_of w v) ≡ v % 2 ^ w
 unfolding bits_of value
-value-bitsOf zero v = sym (mod-one v)
-value-bitsOf (suc w) v =
+value-bits_of zero v = sym (mod-one v)
+value-bits_of (suc w) v =
     value-cons (odd (v / 2 ^ w)) (bits_of w v)
-    ∙ rw (length-bitsOf, value-bitsOf w v, digit-odd, ← one-add w) (sym (mod-pow-add v 1 w))
+    ∙ rw (length-bits_of, value-bits_of w v, digit-odd, ← one-add w) (sym (mod-pow-add v 1 w))
 
 pub value-lt : (bs : List Bool) → value bs < 2 ^ length bs
 unfolding value digit
@@ -58,27 +58,27 @@ value-lt (false ∷ bs) = omega (arith, value-lt bs, pow-suc 2 (length bs))
 pub value-take-lt : (i : ℕ) (l : List Bool) → value (take i l) < 2 ^ i
 value-take-lt i l = lt_of_lt_of_le (value-lt (take i l)) (pow_mono (simp length-take (omega arith)))
 
-pub value_inj : (x y : List Bool) → length x ≡ length y → value x ≡ value y → x ≡ y
+pub value-inj : (x y : List Bool) → length x ≡ length y → value x ≡ value y → x ≡ y
 unfolding value
-value_inj [] [] e p = refl
-value_inj [] (b ∷ bs) e p = absurd (omega arith)
-value_inj (a ∷ as') [] e p = absurd (omega arith)
-value_inj (a ∷ as') (b ∷ bs) e p =
+value-inj [] [] e p = refl
+value-inj [] (b ∷ bs) e p = absurd (omega arith)
+value-inj (a ∷ as') [] e p = absurd (omega arith)
+value-inj (a ∷ as') (b ∷ bs) e p =
     let n : ℕ = length bs in
     let e' : length as' ≡ n = omega arith in
     let q : digit a * 2 ^ n + value as' ≡ digit b * 2 ^ n + value bs = subst (λ (k : ℕ). digit a * 2 ^ k + value as' ≡ digit b * 2 ^ n + value bs) e' p in
     let la : value as' < 2 ^ n = subst (λ (k : ℕ). value as' < 2 ^ k) e' (value-lt as') in
     let d : digit a ≡ digit b = sym (high (digit a) n la) ∙ ap (λ (k : ℕ). k / 2 ^ n) q ∙ high (digit b) n (value-lt bs) in
     let t : value as' ≡ value bs = sym (low (digit a) n la) ∙ ap (λ (k : ℕ). k % 2 ^ n) q ∙ low (digit b) n (value-lt bs) in
-    ap₂ (λ (x : Bool) (y : List Bool). x ∷ y) (sym (odd-digit a) ∙ ap odd d ∙ odd-digit b) (value_inj as' bs e' t)
+    ap₂ (λ (x : Bool) (y : List Bool). x ∷ y) (sym (odd-digit a) ∙ ap odd d ∙ odd-digit b) (value-inj as' bs e' t)
 
-pub bitsOf-value : (bs : List Bool) → bits_of (length bs) (value bs) ≡ bs
-bitsOf-value bs =
-    value_inj (bits_of (length bs) (value bs)) bs (length-bitsOf (length bs) (value bs))
-    (value-bitsOf (length bs) (value bs) ∙ mod-eq_of_lt (value-lt bs))
+pub bits_of-value : (bs : List Bool) → bits_of (length bs) (value bs) ≡ bs
+bits_of-value bs =
+    value-inj (bits_of (length bs) (value bs)) bs (length-bits_of (length bs) (value bs))
+    (value-bits_of (length bs) (value bs) ∙ mod-eq_of_lt (value-lt bs))
 
-pub value-bitsOf-fit : (w v : ℕ) → v < 2 ^ w → value (bits_of w v) ≡ v
-value-bitsOf-fit w v h = value-bitsOf w v ∙ mod-eq_of_lt h
+pub value-bits_of-fit : (w v : ℕ) → v < 2 ^ w → value (bits_of w v) ≡ v
+value-bits_of-fit w v h = value-bits_of w v ∙ mod-eq_of_lt h
 
 pub value-append : (a b : List Bool) → value (a ++ b) ≡ value a * 2 ^ length b + value b
 unfolding value
@@ -99,35 +99,35 @@ value-zeros zero = refl
 value-zeros (suc n) = omega (arith, value-zeros n)
 
 -- the a high bits and the b low bits of a number
-pub bitsOf-add : (a b v : ℕ) → bits_of (a + b) v ≡ bits_of a (v / 2 ^ b) ++ bits_of b v
+pub bits_of-add : (a b v : ℕ) → bits_of (a + b) v ≡ bits_of a (v / 2 ^ b) ++ bits_of b v
 unfolding bits_of
-bitsOf-add zero b v = let e : 0 + b ≡ b = omega arith in ap (λ (k : ℕ). bits_of k v) e
-bitsOf-add (suc a) b v =
+bits_of-add zero b v = let e : 0 + b ≡ b = omega arith in ap (λ (k : ℕ). bits_of k v) e
+bits_of-add (suc a) b v =
     let e : suc a + b ≡ suc (a + b) = omega arith in
     let f : b + a ≡ a + b = omega arith in
     ap (λ (k : ℕ). bits_of k v) e
-    ∙ ap₂ (λ (x : Bool) (l : List Bool). x ∷ l) (sym (ap odd (shr-shr v b a ∙ ap (λ (k : ℕ). v / 2 ^ k) f))) (bitsOf-add a b v)
+    ∙ ap₂ (λ (x : Bool) (l : List Bool). x ∷ l) (sym (ap odd (shr-shr v b a ∙ ap (λ (k : ℕ). v / 2 ^ k) f))) (bits_of-add a b v)
 
 -- n bits from the middle of a number's bits
-pub take-drop-bitsOf : (w v a n : ℕ) → a + n ≤ w → take n (drop a (bits_of w v)) ≡ bits_of n (v / 2 ^ (w - a - n))
-take-drop-bitsOf w v a n h =
+pub take-drop-bits_of : (w v a n : ℕ) → a + n ≤ w → take n (drop a (bits_of w v)) ≡ bits_of n (v / 2 ^ (w - a - n))
+take-drop-bits_of w v a n h =
     let t : ℕ = w - a - n in
     let e : w ≡ a + (n + t) = omega arith in
     ap (λ (k : ℕ). take n (drop a (bits_of k v))) e
-    ∙ ap (λ (l : List Bool). take n (drop a l)) (bitsOf-add a (n + t) v)
-    ∙ ap (take n) (drop_at (bits_of a (v / 2 ^ (n + t))) (bits_of (n + t) v) a (length-bitsOf a (v / 2 ^ (n + t))) ∙ bitsOf-add n t v)
-    ∙ take_at (bits_of n (v / 2 ^ t)) (bits_of t v) n (length-bitsOf n (v / 2 ^ t))
+    ∙ ap (λ (l : List Bool). take n (drop a l)) (bits_of-add a (n + t) v)
+    ∙ ap (take n) (drop_at (bits_of a (v / 2 ^ (n + t))) (bits_of (n + t) v) a (length-bits_of a (v / 2 ^ (n + t))) ∙ bits_of-add n t v)
+    ∙ take_at (bits_of n (v / 2 ^ t)) (bits_of t v) n (length-bits_of n (v / 2 ^ t))
 
-pub getD-bitsOf : (w v r : ℕ) → r < w → get_or (bits_of w v) r false ≡ odd (v / 2 ^ (w - suc r))
+pub get_or-bits_of : (w v r : ℕ) → r < w → get_or (bits_of w v) r false ≡ odd (v / 2 ^ (w - suc r))
 unfolding bits_of
-getD-bitsOf zero v r h = absurd (not-suc-le-zero h)
-getD-bitsOf (suc w) v zero h = ap (λ (k : ℕ). odd (v / 2 ^ k)) (omega arith)
-getD-bitsOf (suc w) v (suc r) h = getD-bitsOf w v r (le_of_suc-le-suc h) ∙ ap (λ (k : ℕ). odd (v / 2 ^ k)) (omega arith)
+get_or-bits_of zero v r h = absurd (not-suc-le-zero h)
+get_or-bits_of (suc w) v zero h = ap (λ (k : ℕ). odd (v / 2 ^ k)) (omega arith)
+get_or-bits_of (suc w) v (suc r) h = get_or-bits_of w v r (le_of_suc-le-suc h) ∙ ap (λ (k : ℕ). odd (v / 2 ^ k)) (omega arith)
 
 pub length-bits : (s : List ℕ) → length (bits s) ≡ 8 * length s
 unfolding bits
 length-bits [] = refl
-length-bits (b ∷ s) = let h = length-bits s in rw (length-append, length-bitsOf) (omega arith)
+length-bits (b ∷ s) = let h = length-bits s in rw (length-append, length-bits_of) (omega arith)
 
 pub length-bytes : (n : ℕ) (bs : List Bool) → length (bytes n bs) ≡ n
 unfolding bytes
@@ -146,21 +146,21 @@ bytes-append (suc a) b x y e =
     ∙ ap (value (take 8 x) ∷◌) (bytes-append a b (drop 8 x) y (length-drop 8 x ∙ omega arith))
 
 -- bit r of byte q
-pub get_d_bits : (s : List ℕ) (q r : ℕ) → r < 8 → q < length s → get_or (bits s) (8 * q + r) false ≡ odd (get_or s q 0 / 2 ^ (7 - r))
+pub get_or-bits : (s : List ℕ) (q r : ℕ) → r < 8 → q < length s → get_or (bits s) (8 * q + r) false ≡ odd (get_or s q 0 / 2 ^ (7 - r))
 unfolding bits
-get_d_bits [] q r h k = absurd (not-suc-le-zero k)
-get_d_bits (b ∷ s) zero r h k =
+get_or-bits [] q r h k = absurd (not-suc-le-zero k)
+get_or-bits (b ∷ s) zero r h k =
     ap (λ (x : ℕ). get_or (bits_of 8 b ++ bits s) x false) (omega arith)
-    ∙ get_or-append (bits_of 8 b) (bits s) false r (rw length-bitsOf h) ∙ getD-bitsOf 8 b r h ∙ ap (λ (x : ℕ). odd (b / 2 ^ x)) (omega arith)
-get_d_bits (b ∷ s) (suc q) r h k =
-    ap (λ (x : ℕ). get_or (bits_of 8 b ++ bits s) x false) (rw length-bitsOf (omega arith))
-    ∙ get_or-append-add (bits_of 8 b) (bits s) (8 * q + r) false ∙ get_d_bits s q r h (le_of_suc-le-suc k)
+    ∙ get_or-append (bits_of 8 b) (bits s) false r (rw length-bits_of h) ∙ get_or-bits_of 8 b r h ∙ ap (λ (x : ℕ). odd (b / 2 ^ x)) (omega arith)
+get_or-bits (b ∷ s) (suc q) r h k =
+    ap (λ (x : ℕ). get_or (bits_of 8 b ++ bits s) x false) (rw length-bits_of (omega arith))
+    ∙ get_or-append-add (bits_of 8 b) (bits s) (8 * q + r) false ∙ get_or-bits s q r h (le_of_suc-le-suc k)
 
-pub bytes_bits : (s : List ℕ) → Bytes s → bytes (length s) (bits s) ≡ s
+pub bytes-bits : (s : List ℕ) → Bytes s → bytes (length s) (bits s) ≡ s
 unfolding bytes bits
-bytes_bits [] h = refl
-bytes_bits (b ∷ s) h =
-    rw (take_at (bits_of 8 b) (bits s) 8 (length-bitsOf 8 b), drop_at (bits_of 8 b) (bits s) 8 (length-bitsOf 8 b), value-bitsOf-fit 8 b (h 0), bytes_bits s (λ i. h (suc i)))
+bytes-bits [] h = refl
+bytes-bits (b ∷ s) h =
+    rw (take_at (bits_of 8 b) (bits s) 8 (length-bits_of 8 b), drop_at (bits_of 8 b) (bits s) 8 (length-bits_of 8 b), value-bits_of-fit 8 b (h 0), bytes-bits s (λ i. h (suc i)))
 
 pub bits-bytes : (n : ℕ) (bs : List Bool) → length bs ≡ 8 * n → bits (bytes n bs) ≡ bs
 unfolding bytes bits
@@ -168,7 +168,7 @@ bits-bytes zero [] e = refl
 bits-bytes zero (b ∷ bs) e = absurd (omega arith)
 bits-bytes (suc n) bs e =
     let l : length (take 8 bs) ≡ 8 = length-take-le 8 bs (omega arith) in
-    let t : bits_of 8 (value (take 8 bs)) ≡ take 8 bs = subst (λ (k : ℕ). bits_of k (value (take 8 bs)) ≡ take 8 bs) l (bitsOf-value (take 8 bs)) in
+    let t : bits_of 8 (value (take 8 bs)) ≡ take 8 bs = subst (λ (k : ℕ). bits_of k (value (take 8 bs)) ≡ take 8 bs) l (bits_of-value (take 8 bs)) in
     rw (t, bits-bytes n (drop 8 bs) (length-drop 8 bs ∙ omega arith)) (take-append-drop 8 bs)
 
 pub bytes-Bytes : (n : ℕ) (bs : List Bool) → Bytes (bytes n bs)
@@ -179,7 +179,7 @@ bytes-Bytes (suc n) bs (suc i) = bytes-Bytes n (drop 8 bs) i
 
 pub bits-inj : (s t : List ℕ) → Bytes s → Bytes t → length s ≡ length t → bits s ≡ bits t → s ≡ t
 bits-inj s t hs ht l e =
-    sym (bytes_bits s hs) ∙ ap₂ (λ (n : ℕ) (b : List Bool). bytes n b) l e ∙ bytes_bits t ht
+    sym (bytes-bits s hs) ∙ ap₂ (λ (n : ℕ) (b : List Bool). bytes n b) l e ∙ bytes-bits t ht
 
 pub bits-snoc : (s : List ℕ) (b : ℕ) → bits (s ++ (b ∷ [])) ≡ bits s ++ bits_of 8 b
 unfolding bits

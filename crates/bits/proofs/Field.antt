@@ -14,8 +14,8 @@ use lib.Pow.{pow-add, shl_lt, shl_exact, high, low}
 use lib.ListN.{length, get_or, set, take, drop, length-append, length-take, length-drop, get_or-append}
 use lib.Seq.{paste, take_at, drop_at, get_or-append-add, length-take-le, get_or-take, get_or-drop, drop-drop, drop-cons, take-add, take-append-le, drop-append-le, length_paste_head, length-paste, ext_get_or, take-paste, drop-paste, take_all}
 use Rattle.bits.specs.Bits.{value, bits_of, bits, bytes, Bytes}
-use Rattle.bits.specs.Field.{field_at, putBits, within, getOf, put_of}
-use Rattle.bits.proofs.Bits.{length-bitsOf, length-bits, length-bytes, bits-bytes, value-bitsOf, value-bitsOf-fit, value-append, value-lt, value-take-lt, value_inj, bitsOf-value, bitsOf-add, take-drop-bitsOf, bits-drop, bits-split, bits-set}
+use Rattle.bits.specs.Field.{field_at, put_bits, within, get_of, put_of}
+use Rattle.bits.proofs.Bits.{length-bits_of, length-bits, length-bytes, bits-bytes, value-bits_of, value-bits_of-fit, value-append, value-lt, value-take-lt, value-inj, bits_of-value, bits_of-add, take-drop-bits_of, bits-drop, bits-split, bits-set}
 
 -- ---- the test that a field lies in the bytes
 
@@ -38,13 +38,13 @@ within-past n k w h = rw (lt-leb (k + w) (8 * n) h) (and-false (leb w 64))
 -- read where it was put
 pub put_same : (l : List Bool) (k w v : ℕ) → k + w ≤ length l → v < 2 ^ w → value (take w (drop k (paste l k (bits_of w v) w))) ≡ v
 put_same l k w v h f =
-    let e : take w (bits_of w v) ≡ bits_of w v = take_all w (bits_of w v) (rw length-bitsOf (omega arith)) in
+    let e : take w (bits_of w v) ≡ bits_of w v = take_all w (bits_of w v) (rw length-bits_of (omega arith)) in
     ap value
     (ap (take w) (ap (drop k) (append_assoc (take k l) (take w (bits_of w v)) (drop (k + w) l))
     ∙ drop_at (take k l) (take w (bits_of w v) ++ drop (k + w) l) k (length-take-le k l (omega arith)))
     ∙ ap (λ (x : List Bool). take w (x ++ drop (k + w) l)) e
-    ∙ take_at (bits_of w v) (drop (k + w) l) w (length-bitsOf w v))
-    ∙ value-bitsOf-fit w v f
+    ∙ take_at (bits_of w v) (drop (k + w) l) w (length-bits_of w v))
+    ∙ value-bits_of-fit w v f
 
 -- the bits before and after stay
 pub put-before : (l x : List Bool) (k w i : ℕ) → k ≤ length l → i < k → get_or (paste l k x w) i false ≡ get_or l i false
@@ -63,29 +63,29 @@ put-after l x k w i h e =
 
 -- ---- what `put` leaves
 
-pub length-putOf : (s : List ℕ) (k w v : ℕ) → length (put_of s k w v) ≡ length s
-length-putOf s k w v = go (within (length s) k w)
+pub length-put_of : (s : List ℕ) (k w v : ℕ) → length (put_of s k w v) ≡ length s
+length-put_of s k w v = go (within (length s) k w)
   where
-    go : (t : Bool) → length (cond t (bytes (length s) (putBits s k w v)) s) ≡ length s
-    go true = length-bytes (length s) (putBits s k w v)
+    go : (t : Bool) → length (cond t (bytes (length s) (put_bits s k w v)) s) ≡ length s
+    go true = length-bytes (length s) (put_bits s k w v)
     go false = refl
 
-length-bits-putOf : (s : List ℕ) (k w v : ℕ) → length (bits (put_of s k w v)) ≡ length (bits s)
-length-bits-putOf s k w v = length-bits (put_of s k w v) ∙ ap (λ (n : ℕ). 8 * n) (length-putOf s k w v) ∙ sym (length-bits s)
+length-bits-put_of : (s : List ℕ) (k w v : ℕ) → length (bits (put_of s k w v)) ≡ length (bits s)
+length-bits-put_of s k w v = length-bits (put_of s k w v) ∙ ap (λ (n : ℕ). 8 * n) (length-put_of s k w v) ∙ sym (length-bits s)
 
-pub bits-putOf : (s : List ℕ) (k w v : ℕ) → within (length s) k w ≡ true → bits (put_of s k w v) ≡ putBits s k w v
-bits-putOf s k w v e =
+pub bits-put_of : (s : List ℕ) (k w v : ℕ) → within (length s) k w ≡ true → bits (put_of s k w v) ≡ put_bits s k w v
+bits-put_of s k w v e =
     let h : k + w ≤ 8 * length s = (within-true (length s) k w e).1 in
-    ap (λ (t : Bool). bits (cond t (bytes (length s) (putBits s k w v)) s)) e
-    ∙ bits-bytes (length s) (putBits s k w v) (length-paste (bits s) k (bits_of w v) w (rw length-bits h) (rw length-bitsOf (omega arith)) ∙ length-bits s)
+    ap (λ (t : Bool). bits (cond t (bytes (length s) (put_bits s k w v)) s)) e
+    ∙ bits-bytes (length s) (put_bits s k w v) (length-paste (bits s) k (bits_of w v) w (rw length-bits h) (rw length-bits_of (omega arith)) ∙ length-bits s)
 
 -- a value that fits is found again
-pub getOf-putOf : (s : List ℕ) (k w v : ℕ) → within (length s) k w ≡ true → v < 2 ^ w → getOf (put_of s k w v) k w ≡ v
-getOf-putOf s k w v e f =
+pub get_of-put_of : (s : List ℕ) (k w v : ℕ) → within (length s) k w ≡ true → v < 2 ^ w → get_of (put_of s k w v) k w ≡ v
+get_of-put_of s k w v e f =
     let h : k + w ≤ 8 * length s = (within-true (length s) k w e).1 in
-    let t : within (length (put_of s k w v)) k w ≡ true = ap (λ (n : ℕ). within n k w) (length-putOf s k w v) ∙ e in
+    let t : within (length (put_of s k w v)) k w ≡ true = ap (λ (n : ℕ). within n k w) (length-put_of s k w v) ∙ e in
     ap (λ (b : Bool). cond b (field_at (put_of s k w v) k w) 0) t
-    ∙ ap (λ (l : List Bool). value (take w (drop k l))) (bits-putOf s k w v e)
+    ∙ ap (λ (l : List Bool). value (take w (drop k l))) (bits-put_of s k w v e)
     ∙ put_same (bits s) k w v (rw length-bits h) f
 
 -- the n bits from bit i on are the same where each of them is
@@ -100,27 +100,27 @@ same_bits l m i n e h =
 field-before : (s : List ℕ) (k w v i n : ℕ) → within (length s) k w ≡ true → i + n ≤ k → field_at (put_of s k w v) i n ≡ field_at s i n
 field-before s k w v i n e h =
     let r = (within-true (length s) k w e).1 in
-    ap value (same_bits (bits (put_of s k w v)) (bits s) i n (length-bits-putOf s k w v)
-    (λ j hj. ap (λ (l : List Bool). get_or l (i + j) false) (bits-putOf s k w v e) ∙ put-before (bits s) (bits_of w v) k w (i + j) (rw length-bits (omega arith)) (omega arith)))
+    ap value (same_bits (bits (put_of s k w v)) (bits s) i n (length-bits-put_of s k w v)
+    (λ j hj. ap (λ (l : List Bool). get_or l (i + j) false) (bits-put_of s k w v e) ∙ put-before (bits s) (bits_of w v) k w (i + j) (rw length-bits (omega arith)) (omega arith)))
 
 field-after : (s : List ℕ) (k w v i n : ℕ) → within (length s) k w ≡ true → k + w ≤ i → field_at (put_of s k w v) i n ≡ field_at s i n
 field-after s k w v i n e h =
     let r = (within-true (length s) k w e).1 in
-    ap value (same_bits (bits (put_of s k w v)) (bits s) i n (length-bits-putOf s k w v)
+    ap value (same_bits (bits (put_of s k w v)) (bits s) i n (length-bits-put_of s k w v)
     (λ j hj. let p : i + j ≡ k + w + (i + j - (k + w)) = omega arith in
-    ap (λ (l : List Bool). get_or l (i + j) false) (bits-putOf s k w v e)
-    ∙ ap (λ (x : ℕ). get_or (putBits s k w v) x false) p
-    ∙ put-after (bits s) (bits_of w v) k w (i + j - (k + w)) (rw length-bits r) (length-bitsOf w v)
+    ap (λ (l : List Bool). get_or l (i + j) false) (bits-put_of s k w v e)
+    ∙ ap (λ (x : ℕ). get_or (put_bits s k w v) x false) p
+    ∙ put-after (bits s) (bits_of w v) k w (i + j - (k + w)) (rw length-bits r) (length-bits_of w v)
     ∙ ap (λ (x : ℕ). get_or (bits s) x false) (sym p)))
 
 apart : (s : List ℕ) (k w v i n : ℕ) → (i + n ≤ k) ⊎ (k + w ≤ i) → (t : Bool) → within (length s) k w ≡ t → field_at (put_of s k w v) i n ≡ field_at s i n
 apart s k w v i n (inl h) true e = field-before s k w v i n e h
 apart s k w v i n (inr h) true e = field-after s k w v i n e h
-apart s k w v i n h false e = ap (λ (t : Bool). field_at (cond t (bytes (length s) (putBits s k w v)) s) i n) e
+apart s k w v i n h false e = ap (λ (t : Bool). field_at (cond t (bytes (length s) (put_bits s k w v)) s) i n) e
 
-pub getOf-putOf-apart : (s : List ℕ) (k w v i n : ℕ) → (i + n ≤ k) ⊎ (k + w ≤ i) → getOf (put_of s k w v) i n ≡ getOf s i n
-getOf-putOf-apart s k w v i n h =
-    ap₂ (λ (m x : ℕ). cond (within m i n) x 0) (length-putOf s k w v) (apart s k w v i n h (within (length s) k w) refl)
+pub get_of-put_of-apart : (s : List ℕ) (k w v i n : ℕ) → (i + n ≤ k) ⊎ (k + w ≤ i) → get_of (put_of s k w v) i n ≡ get_of s i n
+get_of-put_of-apart s k w v i n h =
+    ap₂ (λ (m x : ℕ). cond (within m i n) x 0) (length-put_of s k w v) (apart s k w v i n h (within (length s) k w) refl)
 
 -- ---- the part of a field that lies in one byte
 
@@ -129,16 +129,16 @@ unfolding bits
 take-drop-bits s q r n hq hr =
     let x : ℕ = get_or s q 0 in
     let after : List Bool = bits (drop (suc q) s) in
-    let l : length (bits_of 8 x) ≡ 8 = length-bitsOf 8 x in
+    let l : length (bits_of 8 x) ≡ 8 = length-bits_of 8 x in
     let ln : length (drop r (bits_of 8 x)) ≡ 8 - r = length-drop r (bits_of 8 x) ∙ ap (λ (k : ℕ). k - r) l in
     let from : drop (8 * q) (bits s) ≡ bits_of 8 x ++ after = bits-drop q s (omega arith) ∙ ap bits (drop-cons s q 0 hq) in
     ap (take n)
     (sym (drop-drop r (8 * q) (bits s)) ∙ ap (drop r) from ∙ drop-append-le r (bits_of 8 x) after (omega arith))
     ∙ take-append-le n (drop r (bits_of 8 x)) after (omega arith)
-    ∙ take-drop-bitsOf 8 x r n hr
+    ∙ take-drop-bits_of 8 x r n hr
 
 pub field-part : (s : List ℕ) (q r n : ℕ) → q < length s → r + n ≤ 8 → field_at s (8 * q + r) n ≡ get_or s q 0 / 2 ^ (8 - r - n) % 2 ^ n
-field-part s q r n hq hr = ap value (take-drop-bits s q r n hq hr) ∙ value-bitsOf n (get_or s q 0 / 2 ^ (8 - r - n))
+field-part s q r n hq hr = ap value (take-drop-bits s q r n hq hr) ∙ value-bits_of n (get_or s q 0 / 2 ^ (8 - r - n))
 
 -- a field is its first i bits and then the n after them
 pub field-add : (s : List ℕ) (k i n : ℕ) → k + i + n ≤ 8 * length s → field_at s k (i + n) ≡ field_at s k i * 2 ^ n + field_at s (k + i) n
@@ -157,8 +157,8 @@ bits-of-field s k a n t h =
     let up : field_at s k (a + n + t) / 2 ^ t ≡ field_at s k a * 2 ^ n + field_at s (k + a) n =
     ap (◌/ 2 ^ t) (field-add s k (a + n) t (omega arith)) ∙ high (field_at s k (a + n)) t (value-take-lt t (drop (k + (a + n)) (bits s))) ∙ field-add s k a n (omega arith) in
     let cut : field_at s k (a + n + t) / 2 ^ t % 2 ^ n ≡ value l = ap (◌% 2 ^ n) up ∙ low (field_at s k a) n (value-take-lt n (drop (k + a) (bits s))) in
-    value_inj l (bits_of n (field_at s k (a + n + t) / 2 ^ t)) (ln ∙ sym (length-bitsOf n (field_at s k (a + n + t) / 2 ^ t)))
-    (sym (value-bitsOf n (field_at s k (a + n + t) / 2 ^ t) ∙ cut))
+    value-inj l (bits_of n (field_at s k (a + n + t) / 2 ^ t)) (ln ∙ sym (length-bits_of n (field_at s k (a + n + t) / 2 ^ t)))
+    (sym (value-bits_of n (field_at s k (a + n + t) / 2 ^ t) ∙ cut))
 
 -- a byte after a field, moved on by m bits
 pub field-byte : (s : List ℕ) (q j m b v acc : ℕ) → q + j < length s → b ≡ get_or s (q + j) 0 → b < 256 → acc ≡ field_at s (8 * q) (8 * j) * 2 ^ (8 + m) → v ≡ b * 2 ^ m
@@ -229,23 +229,23 @@ replaced x r n v o e m hx hr ho he hm =
     let er : 8 ≡ r + (8 - r) = omega arith in
     let en : 8 - r ≡ n + t = omega arith in
     let parts : bits_of 8 x ≡ a ++ (b ++ c) =
-    ap (λ (k : ℕ). bits_of k x) er ∙ bitsOf-add r (8 - r) x ∙ ap (λ (l : List Bool). a ++ l) (ap (λ (k : ℕ). bits_of k x) en ∙ bitsOf-add n t x) in
+    ap (λ (k : ℕ). bits_of k x) er ∙ bits_of-add r (8 - r) x ∙ ap (λ (l : List Bool). a ++ l) (ap (λ (k : ℕ). bits_of k x) en ∙ bits_of-add n t x) in
     let tail : (u : ℕ) → length (bits_of n u ++ c) ≡ 8 - r = λ u.
-    length-append (bits_of n u) c ∙ ap₂ (λ (i j : ℕ). i + j) (length-bitsOf n u) (length-bitsOf t x) ∙ sym en in
+    length-append (bits_of n u) c ∙ ap₂ (λ (i j : ℕ). i + j) (length-bits_of n u) (length-bits_of t x) ∙ sym en in
     let whole : (u d : ℕ) → d ≡ u % 2 ^ n → value (a ++ (bits_of n u ++ c)) ≡ value a * 2 ^ (8 - r) + (d * m + value c) = λ u d hd.
     value-append a (bits_of n u ++ c)
     ∙ ap₂ (λ (i j : ℕ). value a * 2 ^ i + j) (tail u)
-    (value-append (bits_of n u) c ∙ ap₂ (λ (i j : ℕ). i * j + value c) (value-bitsOf n u ∙ sym hd) (ap (λ (k : ℕ). 2 ^ k) (length-bitsOf t x) ∙ sym hm)) in
-    let was : x ≡ value a * 2 ^ (8 - r) + (o * m + value c) = sym (value-bitsOf-fit 8 x hx) ∙ ap value parts ∙ whole (x / 2 ^ t) o ho in
+    (value-append (bits_of n u) c ∙ ap₂ (λ (i j : ℕ). i * j + value c) (value-bits_of n u ∙ sym hd) (ap (λ (k : ℕ). 2 ^ k) (length-bits_of t x) ∙ sym hm)) in
+    let was : x ≡ value a * 2 ^ (8 - r) + (o * m + value c) = sym (value-bits_of-fit 8 x hx) ∙ ap value parts ∙ whole (x / 2 ^ t) o ho in
     let z : List Bool = a ++ (bits_of n v ++ c) in
     let is : x - o * m + e * m ≡ value z = omega (arith, was, whole v e he) in
-    let len : length z ≡ 8 = length-append a (bits_of n v ++ c) ∙ ap₂ (λ (i j : ℕ). i + j) (length-bitsOf r (x / 2 ^ (8 - r))) (tail v) ∙ sym er in
+    let len : length z ≡ 8 = length-append a (bits_of n v ++ c) ∙ ap₂ (λ (i j : ℕ). i + j) (length-bits_of r (x / 2 ^ (8 - r))) (tail v) ∙ sym er in
     let lt : value z < 2 ^ 8 = subst (λ (k : ℕ). value z < 2 ^ k) len (value-lt z) in
-    record { below = omega arith; small = omega arith; old = parts; new = ap₂ (λ (k u : ℕ). bits_of k u) (sym len) is ∙ bitsOf-value z }
+    record { below = omega arith; small = omega arith; old = parts; new = ap₂ (λ (k u : ℕ). bits_of k u) (sym len) is ∙ bits_of-value z }
 
 -- and so the row of bytes
 pub bits-replaced : (s : List ℕ) (q r n v o e m : ℕ) → q < length s → r + n ≤ 8 → Replaced (get_or s q 0) r n v o e m
-    → bits (set s q (get_or s q 0 - o * m + e * m)) ≡ putBits s (8 * q + r) n v
+    → bits (set s q (get_or s q 0 - o * m + e * m)) ≡ put_bits s (8 * q + r) n v
 bits-replaced s q r n v o e m hq hr h =
     let x : ℕ = get_or s q 0 in
     let a : List Bool = bits_of r (x / 2 ^ (8 - r)) in
@@ -255,11 +255,11 @@ bits-replaced s q r n v o e m hq hr h =
     let z : List Bool = bits (drop (suc q) s) in
     let shape : (u : List Bool) → p ++ ((a ++ (u ++ c)) ++ z) ≡ (p ++ a) ++ (u ++ (c ++ z)) = λ u. simp append_assoc in
     let lp : length (p ++ a) ≡ 8 * q + r =
-    length-append p a ∙ ap₂ (λ (i j : ℕ). i + j) (length-bits (take q s) ∙ ap (λ (k : ℕ). 8 * k) (length-take-le q s (omega arith))) (length-bitsOf r (x / 2 ^ (8 - r))) in
+    length-append p a ∙ ap₂ (λ (i j : ℕ). i + j) (length-bits (take q s) ∙ ap (λ (k : ℕ). 8 * k) (length-take-le q s (omega arith))) (length-bits_of r (x / 2 ^ (8 - r))) in
     bits-set s q (x - o * m + e * m) hq
     ∙ ap (λ (u : List Bool). p ++ (u ++ z)) h.new ∙ shape (bits_of n v)
     ∙ sym (ap (λ (l : List Bool). paste l (8 * q + r) (bits_of n v) n) (bits-split s q hq ∙ ap (λ (u : List Bool). p ++ (u ++ z)) h.old ∙ shape b)
-    ∙ paste-between (p ++ a) b (c ++ z) (bits_of n v) (8 * q + r) n lp (length-bitsOf n (x / 2 ^ (8 - r - n))) (length-bitsOf n v))
+    ∙ paste-between (p ++ a) b (c ++ z) (bits_of n v) (8 * q + r) n lp (length-bits_of n (x / 2 ^ (8 - r - n))) (length-bits_of n v))
 
 -- i bits of the field are put, then the n after them
 pub paste-add : (l x y : List Bool) (k i n : ℕ) → k + i + n ≤ length l → i + n ≤ length x → take n (drop i x) ≡ y → length y ≡ n
@@ -274,11 +274,11 @@ paste-add l x y k i n hl hx e ly =
     ∙ ap (λ (u : List Bool). u ++ drop (k + (i + n)) l)
     (append_assoc (take k l) (take i x) (take n y) ∙ ap (λ (u : List Bool). take k l ++ u) (ap (λ (u : List Bool). take i x ++ u) (take_all n y (omega arith) ∙ sym e) ∙ sym (take-add i n x)))
 
-pub putBits-add : (l : List Bool) (k w v i n : ℕ) → k + w ≤ length l → i + n ≤ w
+pub put_bits-add : (l : List Bool) (k w v i n : ℕ) → k + w ≤ length l → i + n ≤ w
     → paste (paste l k (bits_of w v) i) (k + i) (bits_of n (v / 2 ^ (w - i - n))) n ≡ paste l k (bits_of w v) (i + n)
-putBits-add l k w v i n hl hi =
-    paste-add l (bits_of w v) (bits_of n (v / 2 ^ (w - i - n))) k i n (omega arith) (rw length-bitsOf hi)
-    (take-drop-bitsOf w v i n hi) (length-bitsOf n (v / 2 ^ (w - i - n)))
+put_bits-add l k w v i n hl hi =
+    paste-add l (bits_of w v) (bits_of n (v / 2 ^ (w - i - n))) k i n (omega arith) (rw length-bits_of hi)
+    (take-drop-bits_of w v i n hi) (length-bits_of n (v / 2 ^ (w - i - n)))
 
 -- ---- a field out of eight bytes
 
@@ -291,7 +291,7 @@ field-of-eight s at w n h e r en =
     let all : ◌≡◌ {A = ℕ} 64 (o + w + t) = omega arith in
     let place : 8 * q + o ≡ at = omega arith in
     ap (λ (m : ℕ). m / 2 ^ t % 2 ^ w) (en ∙ ap (field_at s (8 * q)) all)
-    ∙ sym (ap value (bits-of-field s (8 * q) o w t (omega arith)) ∙ value-bitsOf w (field_at s (8 * q) (o + w + t) / 2 ^ t))
+    ∙ sym (ap value (bits-of-field s (8 * q) o w t (omega arith)) ∙ value-bits_of w (field_at s (8 * q) (o + w + t) / 2 ^ t))
     ∙ ap (λ (m : ℕ). field_at s m w) place
 
 -- of no width

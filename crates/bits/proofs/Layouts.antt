@@ -14,15 +14,15 @@ use lib.Seq.{paste, take-suc, take_at, drop_at, length-take-le, set_at, drop-con
 use lib.Pow.{pow_mono}
 use Rattle.bits.specs.Bits.{value, bits_of, bits, bytes, Bytes}
 use Rattle.bits.specs.Layout.{pack, unpack, sum, Fit, fitb, Narrow, narrowb, Layout, layoutb}
-use Rattle.bits.proofs.Bits.{length-bitsOf, value-lt, value-take-lt, bitsOf-value, value-bitsOf-fit, length-bits, bytes_bits, bits-bytes}
+use Rattle.bits.proofs.Bits.{length-bits_of, value-lt, value-take-lt, bits_of-value, value-bits_of-fit, length-bits, bytes-bits, bits-bytes}
 
 -- ---- both round trips
 
 pub length-pack : (ws vs : List ℕ) → length (pack ws vs) ≡ sum ws
 unfolding pack sum
 length-pack [] vs = refl
-length-pack (w ∷ ws) [] = rw (length-append, length-bitsOf, length-pack ws [])
-length-pack (w ∷ ws) (v ∷ vs) = rw (length-append, length-bitsOf, length-pack ws vs)
+length-pack (w ∷ ws) [] = rw (length-append, length-bits_of, length-pack ws [])
+length-pack (w ∷ ws) (v ∷ vs) = rw (length-append, length-bits_of, length-pack ws vs)
 
 pub unpack-pack : (ws vs : List ℕ) → Fit ws vs → unpack ws (pack ws vs) ≡ vs
 unfolding pack unpack
@@ -30,7 +30,7 @@ unpack-pack [] [] f = refl
 unpack-pack [] (v ∷ vs) f = absurd f
 unpack-pack (w ∷ ws) [] f = absurd f
 unpack-pack (w ∷ ws) (v ∷ vs) f =
-    rw (take_at (bits_of w v) (pack ws vs) w (length-bitsOf w v), drop_at (bits_of w v) (pack ws vs) w (length-bitsOf w v), value-bitsOf-fit w v f.0, unpack-pack ws vs f.1)
+    rw (take_at (bits_of w v) (pack ws vs) w (length-bits_of w v), drop_at (bits_of w v) (pack ws vs) w (length-bits_of w v), value-bits_of-fit w v f.0, unpack-pack ws vs f.1)
 
 pub pack-unpack : (ws : List ℕ) (bs : List Bool) → length bs ≡ sum ws → pack ws (unpack ws bs) ≡ bs
 unfolding pack unpack sum
@@ -38,7 +38,7 @@ pack-unpack [] [] e = refl
 pack-unpack [] (b ∷ bs) e = absurd (omega arith)
 pack-unpack (w ∷ ws) bs e =
     let l : length (take w bs) ≡ w = length-take-le w bs (omega arith) in
-    let t : bits_of w (value (take w bs)) ≡ take w bs = subst (λ (k : ℕ). bits_of k (value (take w bs)) ≡ take w bs) l (bitsOf-value (take w bs)) in
+    let t : bits_of w (value (take w bs)) ≡ take w bs = subst (λ (k : ℕ). bits_of k (value (take w bs)) ≡ take w bs) l (bits_of-value (take w bs)) in
     rw (t, pack-unpack ws (drop w bs) (length-drop w bs ∙ omega arith)) (take-append-drop w bs)
 
 pub length-fit : (ws vs : List ℕ) → Fit ws vs → length vs ≡ length ws
@@ -71,13 +71,13 @@ pub unpack-bytes-pack : (ws vs : List ℕ) (n : ℕ) → sum ws ≡ 8 * n → Fi
 unpack-bytes-pack ws vs n e f = rw (bits-bytes n (pack ws vs) (length-pack ws vs ∙ e)) (unpack-pack ws vs f)
 
 pub bytes-pack-unpack : (ws s : List ℕ) → sum ws ≡ 8 * length s → Bytes s → bytes (length s) (pack ws (unpack ws (bits s))) ≡ s
-bytes-pack-unpack ws s e h = ap (bytes (length s)) (pack-unpack ws (bits s) (length-bits s ∙ sym e)) ∙ bytes_bits s h
+bytes-pack-unpack ws s e h = ap (bytes (length s)) (pack-unpack ws (bits s) (length-bits s ∙ sym e)) ∙ bytes-bits s h
 
 -- a row of bytes that the fields fill, after `write_all`
 pub packed-bytes : (ws vs s t : List ℕ) (n : ℕ) → sum ws ≡ 8 * n → length s ≡ n → length t ≡ length s → Bytes t
     → bits t ≡ pack ws vs ++ drop (sum ws) (bits s) → t ≡ bytes n (pack ws vs)
 packed-bytes ws vs s t n e l k h p =
-    sym (bytes_bits t h) ∙ ap₂ (λ (m : ℕ) (b : List Bool). bytes m b) (k ∙ l)
+    sym (bytes-bits t h) ∙ ap₂ (λ (m : ℕ) (b : List Bool). bytes m b) (k ∙ l)
     (p ∙ ap (λ (r : List Bool). pack ws vs ++ r) (drop_of_length-le (bits s) {i = sum ws} (omega (arith, length-bits s))) ∙ append-nil (pack ws vs))
 
 -- ---- the tests
@@ -164,7 +164,7 @@ sum-next ws j h = omega (arith, sum-take ws j h, sum-le ws (j + 1))
 pub paste-after : (p l : List Bool) (k w v : ℕ) → length p ≡ k → k + w ≤ length l
     → paste (p ++ drop k l) k (bits_of w v) w ≡ (p ++ bits_of w v) ++ drop (k + w) l
 paste-after p l k w v e h =
-    let t : take w (bits_of w v) ≡ bits_of w v = take_all w (bits_of w v) (rw length-bitsOf (omega arith)) in
+    let t : take w (bits_of w v) ≡ bits_of w v = take_all w (bits_of w v) (rw length-bits_of (omega arith)) in
     let d : drop (k + w) (p ++ drop k l) ≡ drop (k + w) l =
     ap (λ (n : ℕ). drop (n + w) (p ++ drop k l)) (sym e) ∙ drop-append-add p (drop k l) w ∙ drop-drop w k l in
     rw (take_at p (drop k l) k e, t, d)

@@ -4,13 +4,13 @@
 use Rattle.std.specs.Prelude.{◌≡◌, Bool, true, false, cond, ◌&&◌, List, [], ◌∷◌, ◌++◌, map, ℕ, eqb, ltb}
 
 -- the number of the first refusal that is given; 0 where none is
-unfoldable pub firstRefusal : List (ℕ × Bool) → ℕ
-firstRefusal [] = 0
-firstRefusal ((n, given) ∷ ts) = cond given n (firstRefusal ts)
+unfoldable pub first_refusal : List (ℕ × Bool) → ℕ
+first_refusal [] = 0
+first_refusal ((n, given) ∷ ts) = cond given n (first_refusal ts)
 
 -- the numbers of a table, in their order
-abbrev pub testNumbers : List (ℕ × Bool) → List ℕ
-testNumbers = map (λ t. t.0)
+abbrev pub test_numbers : List (ℕ × Bool) → List ℕ
+test_numbers = map (λ t. t.0)
 
 -- the first table's answer if it refuses, otherwise the second's
 abbrev pub or_else : ℕ → ℕ → ℕ

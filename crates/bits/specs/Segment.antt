@@ -28,11 +28,11 @@ widths [] = []
 widths (g ∷ l) = width g ∷ widths l
 
 -- the widths of the fields alone
-unfoldable pub freeWidths : List Segment → List ℕ
-freeWidths [] = []
-freeWidths (field w ∷ l) = w ∷ freeWidths l
-freeWidths (fixedOnes w ∷ l) = freeWidths l
-freeWidths (fixedZeros w ∷ l) = freeWidths l
+unfoldable pub free_widths : List Segment → List ℕ
+free_widths [] = []
+free_widths (field w ∷ l) = w ∷ free_widths l
+free_widths (fixedOnes w ∷ l) = free_widths l
+free_widths (fixedZeros w ∷ l) = free_widths l
 
 -- a segment holds v, if that is fixed
 abbrev pub holds : Segment → ℕ → Bool
@@ -41,11 +41,11 @@ holds (fixedOnes w) v = eqb v (2 ^ w - 1)
 holds (fixedZeros w) v = eqb v 0
 
 -- there is a value for each segment, and each fixed one holds its own
-unfoldable pub fixedHold : List Segment → List ℕ → Bool
-fixedHold [] [] = true
-fixedHold [] (v ∷ vs) = false
-fixedHold (g ∷ l) [] = false
-fixedHold (g ∷ l) (v ∷ vs) = holds g v && fixedHold l vs
+unfoldable pub fixed_hold : List Segment → List ℕ → Bool
+fixed_hold [] [] = true
+fixed_hold [] (v ∷ vs) = false
+fixed_hold (g ∷ l) [] = false
+fixed_hold (g ∷ l) (v ∷ vs) = holds g v && fixed_hold l vs
 
 -- the fields' values, out of the values of all segments
 unfoldable pub free : List Segment → List ℕ → List ℕ
@@ -56,21 +56,21 @@ free (fixedOnes w ∷ l) (v ∷ vs) = free l vs
 free (fixedZeros w ∷ l) (v ∷ vs) = free l vs
 
 -- the values of all segments, out of the fields' values; a value that is missing is 0
-unfoldable pub withFixed : List Segment → List ℕ → List ℕ
-withFixed [] vs = []
-withFixed (field w ∷ l) [] = 0 ∷ withFixed l []
-withFixed (field w ∷ l) (v ∷ vs) = v ∷ withFixed l vs
-withFixed (fixedOnes w ∷ l) vs = (2 ^ w - 1) ∷ withFixed l vs
-withFixed (fixedZeros w ∷ l) vs = 0 ∷ withFixed l vs
+unfoldable pub with_fixed : List Segment → List ℕ → List ℕ
+with_fixed [] vs = []
+with_fixed (field w ∷ l) [] = 0 ∷ with_fixed l []
+with_fixed (field w ∷ l) (v ∷ vs) = v ∷ with_fixed l vs
+with_fixed (fixedOnes w ∷ l) vs = (2 ^ w - 1) ∷ with_fixed l vs
+with_fixed (fixedZeros w ∷ l) vs = 0 ∷ with_fixed l vs
 
 -- the bits of a row of segments whose fields hold the given values
-abbrev pub packSegments : List Segment → List ℕ → List Bool
-packSegments l vs = pack (widths l) (withFixed l vs)
+abbrev pub pack_segments : List Segment → List ℕ → List Bool
+pack_segments l vs = pack (widths l) (with_fixed l vs)
 
 -- the values that stand in the fields
-abbrev pub unpackSegments : List Segment → List Bool → List ℕ
-unpackSegments l bs = free l (unpack (widths l) bs)
+abbrev pub unpack_segments : List Segment → List Bool → List ℕ
+unpack_segments l bs = free l (unpack (widths l) bs)
 
 -- the fixed bits are as they should be
-abbrev pub fixedBitsHold : List Segment → List Bool → Bool
-fixedBitsHold l bs = fixedHold l (unpack (widths l) bs)
+abbrev pub fixed_bits_hold : List Segment → List Bool → Bool
+fixed_bits_hold l bs = fixed_hold l (unpack (widths l) bs)

@@ -9,14 +9,14 @@ use native.Mathlib.Omega.{arith}
 use lib.Dec.{eqb, leb}
 use lib.ListN.{length, length-take, length-drop}
 use borrow.Author.Tests.{eq-eqb, ne_eqb, eqb-true, eqb-false, le-leb, lt-leb, leb-true}
-use Rattle.frame.specs.Read.{frameRefusal}
-use Rattle.capture.specs.Capture.{part_at, number_at, source_of, bytesFrom, positionFrom}
+use Rattle.frame.specs.Read.{frame_refusal}
+use Rattle.capture.specs.Capture.{part_at, number_at, source_of, bytes_from, position_from}
 use Rattle.frame.specs.declared.Edition.{Edition}
 use Rattle.frame.specs.declared.Tuner.{Tuner}
 use Rattle.frame.specs.declared.Tuner.TheVariants.{None, Main, Spare}
 
 module _ (ed : Edition) where
-  pub number-within : (c : List ℕ) (n : ℕ) → 26 * n + 26 ≤ length c → number_at ed c n ≡ frameRefusal ed (part_at c n)
+  pub number-within : (c : List ℕ) (n : ℕ) → 26 * n + 26 ≤ length c → number_at ed c n ≡ frame_refusal ed (part_at c n)
   unfolding number_at
   number-within c n h = rw (le-leb (26 * n + 26) (length c) h)
 
@@ -27,13 +27,13 @@ module _ (ed : Edition) where
   -- an accepted frame lies in its capture
   pub accepted-within : (c : List ℕ) (n : ℕ) → number_at ed c n ≡ 0 → 26 * n + 26 ≤ length c
   unfolding number_at
-  accepted-within c n e = leb-true (26 * n + 26) (length c) (go (leb (26 * n + 26) (length c)) (frameRefusal ed (part_at c n)) e)
+  accepted-within c n e = leb-true (26 * n + 26) (length c) (go (leb (26 * n + 26) (length c)) (frame_refusal ed (part_at c n)) e)
     where
       go : (b : Bool) (m : ℕ) → cond b m 1 ≡ 0 → b ≡ true
       go true m e = refl
       go false m e = let z : ◌≡◌ {A = ℕ} 1 0 = e in absurd (omega arith)
 
-  pub accepted-part : (c : List ℕ) (n : ℕ) → number_at ed c n ≡ 0 → (length (part_at c n) ≡ 26) × (frameRefusal ed (part_at c n) ≡ 0)
+  pub accepted-part : (c : List ℕ) (n : ℕ) → number_at ed c n ≡ 0 → (length (part_at c n) ≡ 26) × (frame_refusal ed (part_at c n) ≡ 0)
   accepted-part c n e =
       let h = accepted-within c n e in
       (simp (length-take, length-drop) (omega arith), sym (number-within c n h) ∙ e)
@@ -85,8 +85,8 @@ module _ (ed : Edition) where
       go (by-none m s) = let q = source-none main spare n m s in let z : ◌≡◌ {A = ℕ} 0 1 = cc in absurd (omega arith)
 
 -- where neither has it: an empty part, cut from the main one's start
-pub none-bytes : {t : Tuner} (main spare : List ℕ) (n : ℕ) → t ≡ None → [] ≡ bytesFrom t main spare n
-none-bytes main spare n e = ap (λ (u : Tuner). bytesFrom u main spare n) (sym e)
+pub none-bytes : {t : Tuner} (main spare : List ℕ) (n : ℕ) → t ≡ None → [] ≡ bytes_from t main spare n
+none-bytes main spare n e = ap (λ (u : Tuner). bytes_from u main spare n) (sym e)
 
-pub none-position : {t : Tuner} (main spare : ℕ × ℕ) (n : ℕ) → t ≡ None → (main.0, 0 + main.1) ≡ positionFrom t main spare n
-none-position main spare n e = ap (λ (k : ℕ). (main.0, k)) (zero-add main.1) ∙ ap (λ (u : Tuner). positionFrom u main spare n) (sym e)
+pub none-position : {t : Tuner} (main spare : ℕ × ℕ) (n : ℕ) → t ≡ None → (main.0, 0 + main.1) ≡ position_from t main spare n
+none-position main spare n e = ap (λ (k : ℕ). (main.0, k)) (zero-add main.1) ∙ ap (λ (u : Tuner). position_from u main spare n) (sym e)

@@ -1,6 +1,6 @@
 // Two tuners, by the edition named, each with a capture: frames end to end, frame n at byte 26n.
 ghost use Rattle.std.specs.Prelude.{◌≡◌, ◌+◌, ◌*◌, ◌≤◌, length};
-ghost use Rattle.capture.specs.Capture.{part_at, positionAt, number_at, numbersOf, source_of, bytesFrom, positionFrom};
+ghost use Rattle.capture.specs.Capture.{part_at, position_at, number_at, numbers_of, source_of, bytes_from, position_from};
 
 use frame::{Edition, Tuner};
 
@@ -15,7 +15,7 @@ pub struct TunerNumbers {
 pub fn part(capture: &[u8], n: usize) -> &[u8]
     requires { 26 * n + 26 ≤ length capture.now }
     ensures bytes { result.now ≡ part_at capture.now n }
-    ensures place { result.ref_ptr ≡ positionAt capture.entry.ref_ptr n }
+    ensures place { result.ref_ptr ≡ position_at capture.entry.ref_ptr n }
 {
     let start = 26 * n;
     let end = start + 26;
@@ -34,7 +34,7 @@ pub fn number(edition: Edition, capture: &[u8], n: usize) -> u8
 
 // Both tuners' numbers, main first.
 pub fn numbers(edition: Edition, main: &[u8], spare: &[u8], n: usize) -> TunerNumbers
-    ensures { result ≡ numbersOf edition main.now spare.now n }
+    ensures { result ≡ numbers_of edition main.now spare.now n }
 {
     TunerNumbers {
         main: number(edition, main, n),
@@ -57,8 +57,8 @@ pub fn source(edition: Edition, main: &[u8], spare: &[u8], n: usize) -> Tuner
 
 // The frame's own bytes, where they stand in the capture that it is taken from; an empty part where neither has it.
 pub fn frame_at<'a>(edition: Edition, main: &'a [u8], spare: &'a [u8], n: usize) -> &'a [u8]
-    ensures bytes { result.now ≡ bytesFrom (source_of edition main.now spare.now n) main.now spare.now n }
-    ensures place { result.ref_ptr ≡ positionFrom (source_of edition main.now spare.now n) main.entry.ref_ptr spare.entry.ref_ptr n }
+    ensures bytes { result.now ≡ bytes_from (source_of edition main.now spare.now n) main.now spare.now n }
+    ensures place { result.ref_ptr ≡ position_from (source_of edition main.now spare.now n) main.entry.ref_ptr spare.entry.ref_ptr n }
 {
     match source(edition, main, spare, n) {
         Tuner::Main => {

@@ -4,8 +4,8 @@ use mathlib.Core.Path.{◌≡◌, refl}
 use mathlib.Core.List.{[], ◌∷◌}
 use Rattle.gf2.specs.Polynomial.{add, scale, remainder}
 use Rattle.bits.specs.Bits.{digit, odd, value, bits_of, bits}
-use Rattle.crc.specs.Crc.{crc, crc32, crc32Of}
+use Rattle.crc.specs.Crc.{crc, crc32, crc32_of}
 
-pub check-value : crc32Of (bits (49 ∷ 50 ∷ 51 ∷ 52 ∷ 53 ∷ 54 ∷ 55 ∷ 56 ∷ 57 ∷ [])) ≡ 0x0376E6E7
+pub check-value : crc32_of (bits (49 ∷ 50 ∷ 51 ∷ 52 ∷ 53 ∷ 54 ∷ 55 ∷ 56 ∷ 57 ∷ [])) ≡ 0x0376E6E7
 unfolding add scale remainder digit odd value bits_of bits crc crc32
 check-value = refl

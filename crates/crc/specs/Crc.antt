@@ -28,8 +28,8 @@ unfoldable pub crc32 : List Bool → List Bool
 crc32 m = crc g32 ones32 m
 
 -- the same as numbers
-abbrev pub crc10Of : List Bool → ℕ
-crc10Of m = value (crc10 m)
+abbrev pub crc10_of : List Bool → ℕ
+crc10_of m = value (crc10 m)
 
-abbrev pub crc32Of : List Bool → ℕ
-crc32Of m = value (crc32 m)
+abbrev pub crc32_of : List Bool → ℕ
+crc32_of m = value (crc32 m)

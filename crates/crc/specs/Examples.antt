@@ -6,13 +6,13 @@ use Rattle.bits.specs.Bits.{bits_of}
 use Rattle.crc.specs.Crc.{crc10}
 
 -- n bits from Bk on, of which just those of the list are set
-unfoldable pub onlySet : ℕ → ℕ → List ℕ → List Bool
-onlySet zero k set = []
-onlySet (suc n) k set = member k set ∷ onlySet n (suc k) set
+unfoldable pub only_set : ℕ → ℕ → List ℕ → List Bool
+only_set zero k set = []
+only_set (suc n) k set = member k set ∷ only_set n (suc k) set
 
 -- the 91 bits that a frame's CRC is taken of, B21 to B111
 abbrev pub covered : List ℕ → List Bool
-covered set = onlySet 91 21 set
+covered set = only_set 91 21 set
 
 pub record CrcExamples : Type 0 where
   -- CRC with only B111 set

@@ -2,7 +2,7 @@
 ghost use Rattle.std.specs.Prelude.{◌≡◌, ◌^◌, ◌<◌, ◌≤◌, take, drop};
 ghost use Rattle.bits.specs.Bits.{bits, value, bits_of};
 ghost use Rattle.gf2.specs.Register.{feed};
-ghost use Rattle.crc.specs.Crc.{g10, crc10Of};
+ghost use Rattle.crc.specs.Crc.{g10, crc10_of};
 
 // The k bits v into the register of CRC-10. One table serves each k: leading zeros leave the remainder of v as it is.
 fn feed10(r: u16, v: u16, k: usize) -> u16
@@ -15,7 +15,7 @@ fn feed10(r: u16, v: u16, k: usize) -> u16
 
 // The CRC-10 of the count bits of s from bit at on; bits past the end of s are not there.
 pub fn crc10(s: &[u8], at: usize, count: usize) -> u16
-    ensures { result ≡ crc10Of (take count (drop at (bits s.now))) }
+    ensures { result ≡ crc10_of (take count (drop at (bits s.now))) }
 {
     let mut r: u16 = 0;
     // The next bit is bit o of byte q: its number in bits could be too large for a usize.

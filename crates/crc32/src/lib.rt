@@ -1,9 +1,9 @@
 // The CRC-32 of headers, eight bytes at a time.
 ghost use Rattle.std.specs.Prelude.{◌≡◌, [], ◌∷◌, ◌*◌, ◌/◌, ◌<◌, length, take};
 ghost use Rattle.bits.specs.Bits.{bits, value, bits_of};
-ghost use Rattle.gf2.specs.Polynomial.{checkBits};
+ghost use Rattle.gf2.specs.Polynomial.{check_bits};
 ghost use Rattle.gf2.specs.Register.{feed};
-ghost use Rattle.crc.specs.Crc.{g32, crc32Of};
+ghost use Rattle.crc.specs.Crc.{g32, crc32_of};
 
 // A bit into the register of CRC-32: where it differs from the one that leaves at the top, the generator is added.
 fn feed_bit(r: u32, b: u32) -> u32
@@ -30,7 +30,7 @@ fn feed_byte(r: u32, b: u8) -> u32
 // What eight bytes leave in a register of zeros, each by the table of as many bytes as come after it. The last ones are summed first, since only
 // the first four wait for the register.
 fn check_group(b0: u8, b1: u8, b2: u8, b3: u8, b4: u8, b5: u8, b6: u8, b7: u8) -> u32
-    ensures { result ≡ value (checkBits g32 (bits (b0 ∷ b1 ∷ b2 ∷ b3 ∷ b4 ∷ b5 ∷ b6 ∷ b7 ∷ []))) }
+    ensures { result ≡ value (check_bits g32 (bits (b0 ∷ b1 ∷ b2 ∷ b3 ∷ b4 ∷ b5 ∷ b6 ∷ b7 ∷ []))) }
 {
     crc_tables::table0(b7)
         ^ crc_tables::table1(b6)
@@ -61,7 +61,7 @@ fn feed_group(r: u32, g: &[u8]) -> u32
 
 // The register after the whole groups of eight bytes of s.
 fn feed_groups(s: &[u8]) -> u32
-    ensures { result ≡ crc32Of (bits (take (length s.now / 8 * 8) s.now)) }
+    ensures { result ≡ crc32_of (bits (take (length s.now / 8 * 8) s.now)) }
 {
     let mut r: u32 = 0xFFFF_FFFF;
     let mut i = 0;
@@ -74,7 +74,7 @@ fn feed_groups(s: &[u8]) -> u32
 
 // The CRC-32 of all of s: eight bytes at a time, then the bytes that are left.
 pub fn crc32(s: &[u8]) -> u32
-    ensures { result ≡ crc32Of (bits s.now) }
+    ensures { result ≡ crc32_of (bits s.now) }
 {
     let mut r = feed_groups(s);
     let mut i = s.len() / 8 * 8;

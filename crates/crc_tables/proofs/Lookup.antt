@@ -50,8 +50,8 @@ abbrev constant : Bool → ℕ → Opd
 constant true c = int w32 c
 constant false c = int_big w32 c
 
-abbrev isSmall : ℕ → Bool
-isSmall c = ltb c 1024
+abbrev is_small : ℕ → Bool
+is_small c = ltb c 1024
 
 abbrev entry : Bool → ℕ → Body
 entry s c = assign (place 3 []) (rv_opd (constant s c))
@@ -59,7 +59,7 @@ entry s c = assign (place 3 []) (rv_opd (constant s c))
 -- the arms of the bytes from i on, each at the byte's key
 abbrev arms : ℕ → List ℕ → Arms
 arms i [] = no_default
-arms i (c ∷ cs) = arm (bit_xor i 128 ∷ []) (entry (isSmall c) c) (arms (suc i) cs)
+arms i (c ∷ cs) = arm (bit_xor i 128 ∷ []) (entry (is_small c) c) (arms (suc i) cs)
 
 abbrev turn-over : Body
 turn-over = assign (place 2 []) (op2 xor (copy (place 1 [])) (int_neg w8 128))
@@ -122,7 +122,7 @@ entry-asks s c Ψ = pass Keyed Found (find s c) (at_next Next Ψ)
 
 abbrev each-asks : (i : ℕ) (cs : List ℕ) → Wants Keyed Next (arms i cs)
 each-asks i [] = tt
-each-asks i (c ∷ cs) = (entry-asks (isSmall c) c, each-asks (suc i) cs)
+each-asks i (c ∷ cs) = (entry-asks (is_small c) c, each-asks (suc i) cs)
 
 abbrev match-asks : List ℕ → TF Keyed Next
 match-asks cs = Φswitch Keyed Next 2 (λ x. x) (arms 0 cs) (each-asks 0 cs)
@@ -168,7 +168,7 @@ module _ {M : Type 1} {𝓤 : Ura M} (𝓛 : Logic 𝓤) (𝓣 : Tables 𝓤 �
 
   arms-typed : (i : ℕ) (cs : List ℕ) → Fit cs → TypedArms 𝓛 𝓣 E Keyed Next (arms i cs) (each-asks i cs)
   arms-typed i [] fits = tt
-  arms-typed i (c ∷ cs) fits = (entry-typed (isSmall c) c (fits 0 (omega arith)), arms-typed (suc i) cs (λ j h. fits (suc j) (omega arith)))
+  arms-typed i (c ∷ cs) fits = (entry-typed (is_small c) c (fits 0 (omega arith)), arms-typed (suc i) cs (λ j h. fits (suc j) (omega arith)))
 
   without2-typed : Typed 𝓛 𝓣 E Without2 return Return without2-asks
   without2-typed =
@@ -209,7 +209,7 @@ module _ {M : Type 1} {𝓤 : Ura M} (𝓛 : Logic 𝓤) (𝓣 : Tables 𝓤 �
 -- ---- and what it asks holds, where what is wanted holds of the number of b. N is that b's key is none of those before
 
 module _ (Ψ : Want Next) (u : Mo Keyed) (b : ℕ) (byte : b < 256) where
-  arms-asked : (i : ℕ) (cs : List ℕ) (N : Type 0) → (N → i ≤ b) → i + length cs ≡ 256 → ((j : ℕ) → b ≡ i + j → entry-asks (isSmall (get_or cs j 0)) (get_or cs j 0) Ψ u)
+  arms-asked : (i : ℕ) (cs : List ℕ) (N : Type 0) → (N → i ≤ b) → i + length cs ≡ 256 → ((j : ℕ) → b ≡ i + j → entry-asks (is_small (get_or cs j 0)) (get_or cs j 0) Ψ u)
       → Φarms Keyed Next (arms i cs) (each-asks i cs) N (bit_xor b 128) Ψ u
   arms-asked i [] N from all wanted = λ none_before. absurd (omega (arith, from none_before))
   arms-asked i (c ∷ cs) N from all wanted = (
@@ -240,4 +240,4 @@ module _ (Pre : In 0 params) (Post : Out 0 params result) where
           let want = want_q 0 params result others 0 tt tt a (Post tt a) in
           arms-asked (want_next Found Return (answer-asks want) want) (key.next (init 0 params result others 0 tt tt a)) a.0 small 0 cs Unit
           (λ m. omega arith) (omega arith)
-          (λ j e. let i : a.0 ≡ j = omega arith in given (isSmall (get_or cs j 0)) a (get_or cs j 0) (subst (λ n. Post tt a (get_or cs n 0) (a.0, tt)) i (meets a small pre)))
+          (λ j e. let i : a.0 ≡ j = omega arith in given (is_small (get_or cs j 0)) a (get_or cs j 0) (subst (λ n. Post tt a (get_or cs n 0) (a.0, tt)) i (meets a small pre)))

@@ -5,10 +5,10 @@
 // highest bit is turned over, since the compiler sorts the keys as signed numbers: so b itself is the place in the table.
 ghost use Rattle.std.specs.Prelude.{◌≡◌};
 ghost use Rattle.crc.specs.Crc.{g10, g32};
-ghost use Rattle.crc.specs.Remainders.{remainderOf};
+ghost use Rattle.crc.specs.Remainders.{remainder_of};
 
 pub fn remainder10(b: u8) -> u32
-    ensures { result ≡ remainderOf g10 0 b }
+    ensures { result ≡ remainder_of g10 0 b }
 {
     match b ^ 128 {
         128 => 0x000,
@@ -271,7 +271,7 @@ pub fn remainder10(b: u8) -> u32
 }
 
 pub fn table0(b: u8) -> u32
-    ensures { result ≡ remainderOf g32 0 b }
+    ensures { result ≡ remainder_of g32 0 b }
 {
     match b ^ 128 {
         128 => 0x0000_0000,
@@ -534,7 +534,7 @@ pub fn table0(b: u8) -> u32
 }
 
 pub fn table1(b: u8) -> u32
-    ensures { result ≡ remainderOf g32 1 b }
+    ensures { result ≡ remainder_of g32 1 b }
 {
     match b ^ 128 {
         128 => 0x0000_0000,
@@ -797,7 +797,7 @@ pub fn table1(b: u8) -> u32
 }
 
 pub fn table2(b: u8) -> u32
-    ensures { result ≡ remainderOf g32 2 b }
+    ensures { result ≡ remainder_of g32 2 b }
 {
     match b ^ 128 {
         128 => 0x0000_0000,
@@ -1060,7 +1060,7 @@ pub fn table2(b: u8) -> u32
 }
 
 pub fn table3(b: u8) -> u32
-    ensures { result ≡ remainderOf g32 3 b }
+    ensures { result ≡ remainder_of g32 3 b }
 {
     match b ^ 128 {
         128 => 0x0000_0000,
@@ -1323,7 +1323,7 @@ pub fn table3(b: u8) -> u32
 }
 
 pub fn table4(b: u8) -> u32
-    ensures { result ≡ remainderOf g32 4 b }
+    ensures { result ≡ remainder_of g32 4 b }
 {
     match b ^ 128 {
         128 => 0x0000_0000,
@@ -1586,7 +1586,7 @@ pub fn table4(b: u8) -> u32
 }
 
 pub fn table5(b: u8) -> u32
-    ensures { result ≡ remainderOf g32 5 b }
+    ensures { result ≡ remainder_of g32 5 b }
 {
     match b ^ 128 {
         128 => 0x0000_0000,
@@ -1849,7 +1849,7 @@ pub fn table5(b: u8) -> u32
 }
 
 pub fn table6(b: u8) -> u32
-    ensures { result ≡ remainderOf g32 6 b }
+    ensures { result ≡ remainder_of g32 6 b }
 {
     match b ^ 128 {
         128 => 0x0000_0000,
@@ -2112,7 +2112,7 @@ pub fn table6(b: u8) -> u32
 }
 
 pub fn table7(b: u8) -> u32
-    ensures { result ≡ remainderOf g32 7 b }
+    ensures { result ≡ remainder_of g32 7 b }
 {
     match b ^ 128 {
         128 => 0x0000_0000,

@@ -10,101 +10,101 @@ use lib.ListN.{length, get_or, drop, length-append, drop_of_length-le}
 use lib.Seq.{drop_at, drop-cons, append_snoc}
 use borrow.Author.Tests.{lt-ltb, le-ltb, le-leb, eq-eqb, ne_eqb, ltb-true, ltb-false, leb-true, eqb-true, eqb-false}
 use Rattle.decimals.specs.Decimal.{digits, decimal}
-use Rattle.decimals.specs.Reading.{startsWith, isDigit, digitsFrom, decimalAt}
+use Rattle.decimals.specs.Reading.{starts_with, is_digit, digits_from, decimal_at}
 use Rattle.decimals.specs.declared.Found.TheVariants.{Number, Nothing}
 use Rattle.decimals.proofs.Decimals.{leading-some, digits-one, decimal-last}
 
 -- ---- at the edges of the rules
 
 -- of `07` only the 0 is a number
-zero-in-front : decimalAt (48 ∷ 55 ∷ []) ≡ Number 0 1
-unfolding decimalAt digitsFrom
+zero-in-front : decimal_at (48 ∷ 55 ∷ []) ≡ Number 0 1
+unfolding decimal_at digits_from
 zero-in-front = refl
 
 -- the bytes before `0` and behind `9` end a number
-ended : decimalAt (57 ∷ 47 ∷ []) ≡ Number 9 1
-unfolding decimalAt digitsFrom
+ended : decimal_at (57 ∷ 47 ∷ []) ≡ Number 9 1
+unfolding decimal_at digits_from
 ended = refl
 
-ended-above : decimalAt (57 ∷ 58 ∷ []) ≡ Number 9 1
-unfolding decimalAt digitsFrom
+ended-above : decimal_at (57 ∷ 58 ∷ []) ≡ Number 9 1
+unfolding decimal_at digits_from
 ended-above = refl
 
 -- the largest number of 64 bits, and the one behind it
-largest : decimalAt (decimal 18446744073709551615) ≡ Number 18446744073709551615 20
-unfolding decimalAt digitsFrom digits
+largest : decimal_at (decimal 18446744073709551615) ≡ Number 18446744073709551615 20
+unfolding decimal_at digits_from digits
 largest = refl
 
-too_large : decimalAt (decimal 18446744073709551616) ≡ Nothing
-unfolding decimalAt digitsFrom digits
+too_large : decimal_at (decimal 18446744073709551616) ≡ Nothing
+unfolding decimal_at digits_from digits
 too_large = refl
 
 -- a text that ends in its label, and one that differs in the last byte
-cut_short : startsWith (97 ∷ 98 ∷ []) (97 ∷ []) ≡ false
-unfolding startsWith
+cut_short : starts_with (97 ∷ 98 ∷ []) (97 ∷ []) ≡ false
+unfolding starts_with
 cut_short = refl
 
-last-differs : startsWith (97 ∷ 98 ∷ []) (97 ∷ 99 ∷ []) ≡ false
-unfolding startsWith
+last-differs : starts_with (97 ∷ 98 ∷ []) (97 ∷ 99 ∷ []) ≡ false
+unfolding starts_with
 last-differs = refl
 
 -- ---- labels
 
-pub starts-same : (t s : List ℕ) → startsWith t (t ++ s) ≡ true
-unfolding startsWith
+pub starts-same : (t s : List ℕ) → starts_with t (t ++ s) ≡ true
+unfolding starts_with
 starts-same [] s = refl
 starts-same (a ∷ t) s = rw (eq-eqb a a refl) (starts-same t s)
 
-pub starts-split : (t s : List ℕ) → startsWith t s ≡ true → s ≡ t ++ drop (length t) s
-unfolding startsWith
+pub starts-split : (t s : List ℕ) → starts_with t s ≡ true → s ≡ t ++ drop (length t) s
+unfolding starts_with
 starts-split [] s e = refl
 starts-split (a ∷ t) [] e = let z : ◌≡◌ {A = ℕ} 0 1 = cc in absurd (omega arith)
 starts-split (a ∷ t) (b ∷ s) e =
-    let r = (and-eq-true_iff (eqb a b) (startsWith t s)).0 e in
+    let r = (and-eq-true_iff (eqb a b) (starts_with t s)).0 e in
     ap₂ ◌∷◌ (sym (eqb-true a b r.0)) (starts-split t s r.1)
 
-pub starts-inside : (t s : List ℕ) → startsWith t s ≡ true → length t ≤ length s
+pub starts-inside : (t s : List ℕ) → starts_with t s ≡ true → length t ≤ length s
 starts-inside t s e = omega (arith, ap length (starts-split t s e) ∙ length-append t (drop (length t) s))
 
 -- the label is met at the places before i
 pub record Met (t s : List ℕ) (i : ℕ) : Type 0 where
   pub inside : i ≤ length t
-  pub rest : startsWith t s ≡ startsWith (drop i t) (drop i s)
+  pub rest : starts_with t s ≡ starts_with (drop i t) (drop i s)
 
 pub met-none : (t s : List ℕ) → Met t s 0
 met-none t s = record { inside = omega arith; rest = refl }
 
 module _ {t s : List ℕ} {i : ℕ} (w : Met t s i) where
-  met-here : i < length t → i < length s → startsWith t s ≡ (eqb (get_or t i 0) (get_or s i 0) && startsWith (drop (i + 1) t) (drop (i + 1) s))
-  unfolding startsWith
+  met-here : i < length t → i < length s → starts_with t s ≡ (eqb (get_or t i 0) (get_or s i 0) && starts_with (drop (i + 1) t) (drop (i + 1) s))
+  unfolding starts_with
   met-here h l = w.rest ∙ rw (add-one, drop-cons t i 0 h, drop-cons s i 0 l)
 
   pub met_next : i < length t → i < length s → get_or t i 0 ≡ get_or s i 0 → Met t s (i + 1)
   met_next h l e = record { inside = omega arith; rest = met-here h l ∙ rw (eq-eqb (get_or t i 0) (get_or s i 0) e) }
 
-  pub met-other : i < length t → i < length s → (get_or t i 0 ≡ get_or s i 0 → ⊥) → false ≡ startsWith t s
+  pub met-other : i < length t → i < length s → (get_or t i 0 ≡ get_or s i 0 → ⊥) → false ≡ starts_with t s
   met-other h l e = sym (met-here h l ∙ rw (ne_eqb (get_or t i 0) (get_or s i 0) e))
 
-  pub met_all : length t ≤ i → true ≡ startsWith t s
-  unfolding startsWith
+  pub met_all : length t ≤ i → true ≡ starts_with t s
+  unfolding starts_with
   met_all h = sym (w.rest ∙ rw (drop_of_length-le t {i = i} h))
 
-pub starts-short : (t s : List ℕ) → length s < length t → false ≡ startsWith t s
-unfolding startsWith
+pub starts-short : (t s : List ℕ) → length s < length t → false ≡ starts_with t s
+unfolding starts_with
 starts-short [] s h = absurd (omega arith)
 starts-short (a ∷ t) [] h = refl
 starts-short (a ∷ t) (b ∷ s) h = go (eqb a b) (starts-short t s (omega arith))
   where
-    go : (x : Bool) → false ≡ startsWith t s → false ≡ (x && startsWith t s)
+    go : (x : Bool) → false ≡ starts_with t s → false ≡ (x && starts_with t s)
     go true e = e
     go false e = refl
 
 -- ---- a digit
 
-pub digit-bounds : (b : ℕ) → isDigit b ≡ true → (48 ≤ b) × (b ≤ 57)
+pub digit-bounds : (b : ℕ) → is_digit b ≡ true → (48 ≤ b) × (b ≤ 57)
 digit-bounds b e = let r = (and-eq-true_iff (leb 48 b) (leb b 57)).0 e in (leb-true 48 b r.0, leb-true b 57 r.1)
 
-digit-within : (b : ℕ) → 48 ≤ b → b ≤ 57 → isDigit b ≡ true
+digit-within : (b : ℕ) → 48 ≤ b → b ≤ 57 → is_digit b ≡ true
 digit-within b l h = (and-eq-true_iff (leb 48 b) (leb b 57)).1 (le-leb 48 b l, le-leb b 57 h)
 
 -- one more behind a number
@@ -117,80 +117,80 @@ decimal-more v d z l h =
 -- ---- the digits that stand behind a number
 
 -- the text goes on with no digit
-pub digits-end : (v k : ℕ) (s : List ℕ) → isDigit (get_or s 0 0) ≡ false → digitsFrom v k s ≡ Number v k
-unfolding digitsFrom
+pub digits-end : (v k : ℕ) (s : List ℕ) → is_digit (get_or s 0 0) ≡ false → digits_from v k s ≡ Number v k
+unfolding digits_from
 digits-end v k [] e = refl
 digits-end v k (b ∷ s) e = rw e
 
-pub digits-next : (v k b : ℕ) (s : List ℕ) → isDigit b ≡ true → 10 * v + (b - 48) < 18446744073709551616
-    → digitsFrom v k (b ∷ s) ≡ digitsFrom (10 * v + (b - 48)) (k + 1) s
-unfolding digitsFrom
+pub digits-next : (v k b : ℕ) (s : List ℕ) → is_digit b ≡ true → 10 * v + (b - 48) < 18446744073709551616
+    → digits_from v k (b ∷ s) ≡ digits_from (10 * v + (b - 48)) (k + 1) s
+unfolding digits_from
 digits-next v k b s e h = rw (e, lt-ltb (10 * v + (b - 48)) 18446744073709551616 h)
 
-pub digits-over : (v k b : ℕ) (s : List ℕ) → isDigit b ≡ true → 18446744073709551616 ≤ 10 * v + (b - 48) → digitsFrom v k (b ∷ s) ≡ Nothing
-unfolding digitsFrom
+pub digits-over : (v k b : ℕ) (s : List ℕ) → is_digit b ≡ true → 18446744073709551616 ≤ 10 * v + (b - 48) → digits_from v k (b ∷ s) ≡ Nothing
+unfolding digits_from
 digits-over v k b s e h = rw (e, le-ltb (10 * v + (b - 48)) 18446744073709551616 h)
 
 -- the digits before a place are read
 pub record DigitsRead (s : List ℕ) (first value i : ℕ) : Type 0 where
   pub inside : i ≤ length s
-  pub rest : digitsFrom first 1 (drop 1 s) ≡ digitsFrom value i (drop i s)
+  pub rest : digits_from first 1 (drop 1 s) ≡ digits_from value i (drop i s)
 
 pub digits-first : (s : List ℕ) (first : ℕ) → 0 < length s → DigitsRead s first first 1
 digits-first s first h = record { inside = omega arith; rest = refl }
 
 module _ {s : List ℕ} {first value i : ℕ} (w : DigitsRead s first value i) where
-  digits-here : i < length s → digitsFrom first 1 (drop 1 s) ≡ digitsFrom value i (get_or s i 0 ∷ drop (i + 1) s)
+  digits-here : i < length s → digits_from first 1 (drop 1 s) ≡ digits_from value i (get_or s i 0 ∷ drop (i + 1) s)
   digits-here h = w.rest ∙ rw (add-one, drop-cons s i 0 h)
 
-  pub digits-one-more : (d : ℕ) → i < length s → isDigit (get_or s i 0) ≡ true → d ≡ get_or s i 0 - 48 → 10 * value + d < 18446744073709551616
+  pub digits-one-more : (d : ℕ) → i < length s → is_digit (get_or s i 0) ≡ true → d ≡ get_or s i 0 - 48 → 10 * value + d < 18446744073709551616
       → DigitsRead s first (10 * value + d) (i + 1)
   digits-one-more d h e q l =
       rw q (record { inside = omega arith; rest = digits-here h ∙ digits-next value i (get_or s i 0) (drop (i + 1) s) e (omega arith) })
 
-  pub digits-no-room : (d : ℕ) → i < length s → isDigit (get_or s i 0) ≡ true → d ≡ get_or s i 0 - 48 → 18446744073709551616 ≤ 10 * value + d
-      → Nothing ≡ digitsFrom first 1 (drop 1 s)
+  pub digits-no-room : (d : ℕ) → i < length s → is_digit (get_or s i 0) ≡ true → d ≡ get_or s i 0 - 48 → 18446744073709551616 ≤ 10 * value + d
+      → Nothing ≡ digits_from first 1 (drop 1 s)
   digits-no-room d h e q l = sym (digits-here h ∙ digits-over value i (get_or s i 0) (drop (i + 1) s) e (omega arith))
 
-  pub digits-before : i < length s → isDigit (get_or s i 0) ≡ false → Number value i ≡ digitsFrom first 1 (drop 1 s)
+  pub digits-before : i < length s → is_digit (get_or s i 0) ≡ false → Number value i ≡ digits_from first 1 (drop 1 s)
   digits-before h e = sym (digits-here h ∙ digits-end value i (get_or s i 0 ∷ drop (i + 1) s) e)
 
-  pub digits-all : length s ≤ i → Number value i ≡ digitsFrom first 1 (drop 1 s)
+  pub digits-all : length s ≤ i → Number value i ≡ digits_from first 1 (drop 1 s)
   digits-all h = sym (w.rest ∙ rw (drop_of_length-le s {i = i} h) (digits-end value i [] refl))
 
 -- ---- the first byte
 
-pub decimal-none : (s : List ℕ) → length s ≡ 0 → Nothing ≡ decimalAt s
-unfolding decimalAt
+pub decimal-none : (s : List ℕ) → length s ≡ 0 → Nothing ≡ decimal_at s
+unfolding decimal_at
 decimal-none [] e = refl
 decimal-none (b ∷ s) e = absurd (omega arith)
 
-pub decimal-zero : (s : List ℕ) → 0 < length s → get_or s 0 0 ≡ 48 → Number 0 1 ≡ decimalAt s
-unfolding decimalAt
+pub decimal-zero : (s : List ℕ) → 0 < length s → get_or s 0 0 ≡ 48 → Number 0 1 ≡ decimal_at s
+unfolding decimal_at
 decimal-zero [] h e = absurd (omega arith)
 decimal-zero (b ∷ s) h e = rw e
 
-pub decimal-other : (s : List ℕ) → 0 < length s → (get_or s 0 0 ≡ 48 → ⊥) → isDigit (get_or s 0 0) ≡ false → Nothing ≡ decimalAt s
-unfolding decimalAt
+pub decimal-other : (s : List ℕ) → 0 < length s → (get_or s 0 0 ≡ 48 → ⊥) → is_digit (get_or s 0 0) ≡ false → Nothing ≡ decimal_at s
+unfolding decimal_at
 decimal-other [] h z e = absurd (omega arith)
 decimal-other (b ∷ s) h z e = rw (ne_eqb b 48 z, e)
 
-pub decimal-first : (s : List ℕ) (d : ℕ) → 0 < length s → (get_or s 0 0 ≡ 48 → ⊥) → isDigit (get_or s 0 0) ≡ true → d ≡ get_or s 0 0 - 48
-    → digitsFrom d 1 (drop 1 s) ≡ decimalAt s
-unfolding decimalAt
+pub decimal-first : (s : List ℕ) (d : ℕ) → 0 < length s → (get_or s 0 0 ≡ 48 → ⊥) → is_digit (get_or s 0 0) ≡ true → d ≡ get_or s 0 0 - 48
+    → digits_from d 1 (drop 1 s) ≡ decimal_at s
+unfolding decimal_at
 decimal-first [] d h z e q = absurd (omega arith)
 decimal-first (b ∷ s) d h z e q = rw (q, ne_eqb b 48 z, e)
 
 -- ---- what was written is read
 
 -- after its first digits the reader stands where the number is its value so far
-decimal-digits : (k n : ℕ) (s : List ℕ) → n ≤ k → (n ≡ 0 → ⊥) → n < 18446744073709551616 → decimalAt (decimal n ++ s) ≡ digitsFrom n (length (decimal n)) s
-unfolding decimalAt
+decimal-digits : (k n : ℕ) (s : List ℕ) → n ≤ k → (n ≡ 0 → ⊥) → n < 18446744073709551616 → decimal_at (decimal n ++ s) ≡ digits_from n (length (decimal n)) s
+unfolding decimal_at
 decimal-digits zero n s l z h = absurd (z (omega arith))
 decimal-digits (suc k) n s l z h = go (λ m s. decimal-digits k m s) (ltb n 10) refl
   where
     Reads : ℕ → List ℕ → Type 0
-    Reads n s = decimalAt (decimal n ++ s) ≡ digitsFrom n (length (decimal n)) s
+    Reads n s = decimal_at (decimal n ++ s) ≡ digits_from n (length (decimal n)) s
 
     go : ((m : ℕ) (s : List ℕ) → m ≤ k → (m ≡ 0 → ⊥) → m < 18446744073709551616 → Reads m s) → (t : Bool) → ltb n 10 ≡ t → Reads n s
     go r true e =
@@ -206,8 +206,8 @@ decimal-digits (suc k) n s l z h = go (λ m s. decimal-digits k m s) (ltb n 10) 
         ∙ digits-next (n / 10) (length (decimal (n / 10))) (48 + d) s (digit-within (48 + d) (omega arith) (omega arith)) (omega arith)
         ∙ rw last))
 
-pub decimal-read : (n : ℕ) (s : List ℕ) → n < 18446744073709551616 → isDigit (get_or s 0 0) ≡ false → decimalAt (decimal n ++ s) ≡ Number n (length (decimal n))
-unfolding decimalAt digits
+pub decimal-read : (n : ℕ) (s : List ℕ) → n < 18446744073709551616 → is_digit (get_or s 0 0) ≡ false → decimal_at (decimal n ++ s) ≡ Number n (length (decimal n))
+unfolding decimal_at digits
 decimal-read zero s h e = refl
 decimal-read (suc n) s h e = decimal-digits (suc n) (suc n) s (omega arith) (λ z. omega arith) h ∙ digits-end (suc n) (length (decimal (suc n))) s e
 
@@ -232,14 +232,14 @@ reads_end s v k n m h e f =
     let place : k ≡ m = cc in
     subst (λ x. Reads (decimal v ++ s) x m) number (subst (λ x. Reads (decimal v ++ s) v x) place (reads-number s v k h e))
 
-reads-digits : (s : List ℕ) (v k n m : ℕ) → (v ≡ 0 → ⊥) → v < 18446744073709551616 → k ≡ length (decimal v) → digitsFrom v k s ≡ Number n m → Reads (decimal v ++ s) n m
-unfolding digitsFrom
+reads-digits : (s : List ℕ) (v k n m : ℕ) → (v ≡ 0 → ⊥) → v < 18446744073709551616 → k ≡ length (decimal v) → digits_from v k s ≡ Number n m → Reads (decimal v ++ s) n m
+unfolding digits_from
 reads-digits [] v k n m z h e f = reads_end [] v k n m h e f
-reads-digits (b ∷ s) v k n m z h e f = go (reads-digits s (10 * v + (b - 48)) (k + 1) n m) (isDigit b) refl (ltb (10 * v + (b - 48)) 18446744073709551616) refl
+reads-digits (b ∷ s) v k n m z h e f = go (reads-digits s (10 * v + (b - 48)) (k + 1) n m) (is_digit b) refl (ltb (10 * v + (b - 48)) 18446744073709551616) refl
   where
     go : ((10 * v + (b - 48) ≡ 0 → ⊥) → 10 * v + (b - 48) < 18446744073709551616 → k + 1 ≡ length (decimal (10 * v + (b - 48)))
-        → digitsFrom (10 * v + (b - 48)) (k + 1) s ≡ Number n m → Reads (decimal (10 * v + (b - 48)) ++ s) n m)
-        → (t : Bool) → isDigit b ≡ t → (u : Bool) → ltb (10 * v + (b - 48)) 18446744073709551616 ≡ u → Reads (decimal v ++ b ∷ s) n m
+        → digits_from (10 * v + (b - 48)) (k + 1) s ≡ Number n m → Reads (decimal (10 * v + (b - 48)) ++ s) n m)
+        → (t : Bool) → is_digit b ≡ t → (u : Bool) → ltb (10 * v + (b - 48)) 18446744073709551616 ≡ u → Reads (decimal v ++ b ∷ s) n m
     go r false d u g = reads_end (b ∷ s) v k n m h e (sym (digits-end v k (b ∷ s) d) ∙ f)
     go r true d false g =
         let over = digits-over v k b s d (ltb-false (10 * v + (b - 48)) 18446744073709551616 g) in
@@ -253,12 +253,12 @@ reads-digits (b ∷ s) v k n m z h e f = go (reads-digits s (10 * v + (b - 48)) 
         subst (λ x. Reads x n m) (ap (◌++ s) more ∙ append_snoc (decimal v) b s)
         (r (λ x. omega arith) small (omega (arith, ap length more ∙ length-append (decimal v) (b ∷ []))) (sym (digits-next v k b s d small) ∙ f))
 
-pub read-decimal : (s : List ℕ) (n k : ℕ) → decimalAt s ≡ Number n k → Reads s n k
-unfolding decimalAt digits
+pub read-decimal : (s : List ℕ) (n k : ℕ) → decimal_at s ≡ Number n k → Reads s n k
+unfolding decimal_at digits
 read-decimal [] n k f = let z : ◌≡◌ {A = ℕ} 0 1 = cc in absurd (omega arith)
-read-decimal (b ∷ s) n k f = go (eqb b 48) refl (isDigit b) refl
+read-decimal (b ∷ s) n k f = go (eqb b 48) refl (is_digit b) refl
   where
-    go : (t : Bool) → eqb b 48 ≡ t → (u : Bool) → isDigit b ≡ u → Reads (b ∷ s) n k
+    go : (t : Bool) → eqb b 48 ≡ t → (u : Bool) → is_digit b ≡ u → Reads (b ∷ s) n k
     go true e u d =
         let zero-first : b ≡ 48 = eqb-true b 48 e in
         subst (λ x. Reads (x ∷ s) n k) (sym zero-first) (reads_end s 0 1 n k (omega arith) refl (rw e at f))

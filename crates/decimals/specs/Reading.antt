@@ -4,23 +4,23 @@ use Rattle.decimals.specs.declared.Found.{Found}
 use Rattle.decimals.specs.declared.Found.TheVariants.{Number, Nothing}
 
 -- the second text begins with the first
-unfoldable pub startsWith : List ℕ → List ℕ → Bool
-startsWith [] s = true
-startsWith (a ∷ t) [] = false
-startsWith (a ∷ t) (b ∷ s) = eqb a b && startsWith t s
+unfoldable pub starts_with : List ℕ → List ℕ → Bool
+starts_with [] s = true
+starts_with (a ∷ t) [] = false
+starts_with (a ∷ t) (b ∷ s) = eqb a b && starts_with t s
 
-abbrev pub isDigit : ℕ → Bool
-isDigit b = leb 48 b && leb b 57
+abbrev pub is_digit : ℕ → Bool
+is_digit b = leb 48 b && leb b 57
 
 -- the number that k digits of the value v, and those that s begins with, make up: none where it has more than 64 bits
-unfoldable pub digitsFrom : (v k : ℕ) → List ℕ → Found
-digitsFrom v k [] = Number v k
-digitsFrom v k (b ∷ s) =
-    cond (isDigit b)
-    (cond (ltb (10 * v + (b - 48)) 18446744073709551616) (digitsFrom (10 * v + (b - 48)) (k + 1) s) Nothing)
+unfoldable pub digits_from : (v k : ℕ) → List ℕ → Found
+digits_from v k [] = Number v k
+digits_from v k (b ∷ s) =
+    cond (is_digit b)
+    (cond (ltb (10 * v + (b - 48)) 18446744073709551616) (digits_from (10 * v + (b - 48)) (k + 1) s) Nothing)
     (Number v k)
 
 -- the plain decimal number that s begins with, and how many digits it has: where the first one is 0 there is no other
-unfoldable pub decimalAt : List ℕ → Found
-decimalAt [] = Nothing
-decimalAt (b ∷ s) = cond (eqb b 48) (Number 0 1) (cond (isDigit b) (digitsFrom (b - 48) 1 s) Nothing)
+unfoldable pub decimal_at : List ℕ → Found
+decimal_at [] = Nothing
+decimal_at (b ∷ s) = cond (eqb b 48) (Number 0 1) (cond (is_digit b) (digits_from (b - 48) 1 s) Nothing)

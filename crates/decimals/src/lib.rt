@@ -3,7 +3,7 @@ ghost use Rattle.std.specs.Prelude.{◌≡◌, [], ◌∷◌, ◌+◌, ◌-◌, 
 ghost use Rattle.std.proofs.lemmas.List.Edits.{sets};
 ghost use Rattle.decimals.specs.Decimal.{leading, decimal};
 ghost use Rattle.decimals.specs.Put.{Put};
-ghost use Rattle.decimals.specs.Reading.{startsWith, isDigit, digitsFrom, decimalAt};
+ghost use Rattle.decimals.specs.Reading.{starts_with, is_digit, digits_from, decimal_at};
 
 // What a text begins with: a number, and how many bytes of the text it takes; or no number.
 #[derive(Drop)]
@@ -61,7 +61,7 @@ pub fn put_decimal(out: &mut [u8], at: usize, n: u64) -> usize
 
 // Whether the text begins with the label.
 pub fn starts_with(label: &[u8], text: &[u8]) -> bool
-    ensures { result ≡ startsWith label.now text.now }
+    ensures { result ≡ starts_with label.now text.now }
 {
     if text.len() < label.len() {
         return false;
@@ -78,7 +78,7 @@ pub fn starts_with(label: &[u8], text: &[u8]) -> bool
 
 // Whether a byte is a decimal digit.
 fn is_digit(byte: u8) -> bool
-    ensures { result ≡ isDigit byte }
+    ensures { result ≡ is_digit byte }
 {
     48 <= byte && byte <= 57
 }
@@ -102,7 +102,7 @@ fn digit_value(byte: u8) -> u64
 // The number that the text's first digit, of this value, and those behind it make up.
 fn read_digits(text: &[u8], first: u64) -> Found
     requires { 0 < length text.now }
-    ensures { result ≡ digitsFrom first 1 (drop 1 text.now) }
+    ensures { result ≡ digits_from first 1 (drop 1 text.now) }
 {
     let mut value = first;
     let mut i = 1;
@@ -119,7 +119,7 @@ fn read_digits(text: &[u8], first: u64) -> Found
 
 // The plain decimal number that the text begins with, and how many digits it has.
 pub fn read_decimal(text: &[u8]) -> Found
-    ensures { result ≡ decimalAt text.now }
+    ensures { result ≡ decimal_at text.now }
 {
     if text.len() == 0 {
         return Found::Nothing;

@@ -1,6 +1,6 @@
 // A record that is made at the desk: the place page of a warning, with a hand-typed place, judged by the edition named. No tuner received it.
 ghost use Rattle.std.specs.Prelude.{◌≡◌};
-ghost use Rattle.desk_record.specs.DeskRecord.{placeRecord, deskRecordOf};
+ghost use Rattle.desk_record.specs.DeskRecord.{place_record, desk_record_of};
 
 use frame::{Edition, Record};
 use place::{Conversion, Fields, Place};
@@ -26,7 +26,7 @@ pub enum DeskRecord {
 
 // The record of page 1 and kind 0 that has these.
 fn place_record(warning: DeskWarning, fields: Fields) -> Record
-    ensures { result ≡ placeRecord warning fields }
+    ensures { result ≡ place_record warning fields }
 {
     let origin = frame_fields::no_origin();
     Record {
@@ -55,7 +55,7 @@ fn place_record(warning: DeskWarning, fields: Fields) -> Record
 
 // The record of what the desk gives, or refusal 11, then the writer's 6 or 10.
 pub fn make(edition: Edition, warning: DeskWarning, place: Place) -> DeskRecord
-    ensures { result ≡ deskRecordOf edition warning place }
+    ensures { result ≡ desk_record_of edition warning place }
 {
     match place_desk::fields_of(place) {
         Conversion::Converted(fields) => {

@@ -15,30 +15,30 @@ use Rattle.gf2.specs.Polynomial.{◌⊕◌, zeros, add, scale, mul, poly, member
 use Rattle.gf2.proofs.Sum.{xor-cross, and_xor, length-add, add-zeros, add-shifted}
 use Rattle.gf2.proofs.Division.{length-mul}
 use Rattle.bits.specs.Bits.{digit, odd}
-use Rattle.dsc.specs.Code.{powers, generatorLow, CodeWord, count}
-use Rattle.dsc.specs.CheckTable.{differences, row, rows_of, coefficient, sumOver, syndrome}
+use Rattle.dsc.specs.Code.{powers, generator_low, CodeWord, count}
+use Rattle.dsc.specs.CheckTable.{differences, row, rows_of, coefficient, sum_over, syndrome}
 use Rattle.dsc.proofs.Word.{length-low}
 
 -- ---- sums and counts along a list
 
-pub sum-xor : (f g : ℕ → Bool) (ps : List ℕ) → sumOver (λ p. f p ⊕ g p) ps ≡ sumOver f ps ⊕ sumOver g ps
+pub sum-xor : (f g : ℕ → Bool) (ps : List ℕ) → sum_over (λ p. f p ⊕ g p) ps ≡ sum_over f ps ⊕ sum_over g ps
 sum-xor f g [] = refl
-sum-xor f g (p ∷ ps) = ap ((f p ⊕ g p) ⊕◌) (sum-xor f g ps) ∙ xor-cross (f p) (g p) (sumOver f ps) (sumOver g ps)
+sum-xor f g (p ∷ ps) = ap ((f p ⊕ g p) ⊕◌) (sum-xor f g ps) ∙ xor-cross (f p) (g p) (sum_over f ps) (sum_over g ps)
 
-pub sum-none : (ps : List ℕ) → sumOver (λ p. false) ps ≡ false
+pub sum-none : (ps : List ℕ) → sum_over (λ p. false) ps ≡ false
 sum-none [] = refl
 sum-none (p ∷ ps) = sum-none ps
 
-pub sum-and : (b : Bool) (f : ℕ → Bool) (ps : List ℕ) → sumOver (λ p. b && f p) ps ≡ b && sumOver f ps
+pub sum-and : (b : Bool) (f : ℕ → Bool) (ps : List ℕ) → sum_over (λ p. b && f p) ps ≡ b && sum_over f ps
 sum-and true f ps = refl
 sum-and false f ps = sum-none ps
 
-pub sum-map : (f : ℕ → Bool) (h : ℕ → ℕ) (ds : List ℕ) → sumOver f (map h ds) ≡ sumOver (λ d. f (h d)) ds
+pub sum-map : (f : ℕ → Bool) (h : ℕ → ℕ) (ds : List ℕ) → sum_over f (map h ds) ≡ sum_over (λ d. f (h d)) ds
 sum-map f h [] = refl
 sum-map f h (d ∷ ds) = ap (f (h d) ⊕◌) (sum-map f h ds)
 
 -- terms that are alike below n, along a list of numbers below n
-pub sum_same : (n : ℕ) (f g : ℕ → Bool) (ds : List ℕ) → T (all_below n ds) → ((d : ℕ) → d < n → f d ≡ g d) → sumOver f ds ≡ sumOver g ds
+pub sum_same : (n : ℕ) (f g : ℕ → Bool) (ds : List ℕ) → T (all_below n ds) → ((d : ℕ) → d < n → f d ≡ g d) → sum_over f ds ≡ sum_over g ds
 sum_same n f g [] t e = refl
 sum_same n f g (d ∷ ds) t e =
     ap₂ ◌⊕◌ (e d (ltb→lt d n (and_left (ltb d n) (all_below n ds) t))) (sum_same n f g ds (and_right (ltb d n) (all_below n ds) t) e)
@@ -85,13 +85,13 @@ coefficient-cons b w p = go b (eqb p (length w)) refl
 -- ---- the sum on a row is linear in the word
 
 -- place n lies on row s
-unfoldable pub onRow : ℕ → ℕ → Bool
-onRow s n = sumOver (λ p. eqb p n) (row s)
+unfoldable pub on_row : ℕ → ℕ → Bool
+on_row s n = sum_over (λ p. eqb p n) (row s)
 
-pub syndrome-cons : (b : Bool) (w : List Bool) (s : ℕ) → syndrome (b ∷ w) s ≡ (b && onRow s (length w)) ⊕ syndrome w s
-unfolding onRow
+pub syndrome-cons : (b : Bool) (w : List Bool) (s : ℕ) → syndrome (b ∷ w) s ≡ (b && on_row s (length w)) ⊕ syndrome w s
+unfolding on_row
 syndrome-cons b w s =
-    ap (λ f. sumOver f (row s)) (fun_ext (coefficient-cons b w))
+    ap (λ f. sum_over f (row s)) (fun_ext (coefficient-cons b w))
     ∙ sum-xor (λ p. b && eqb p (length w)) (coefficient w) (row s)
     ∙ ap (◌⊕ syndrome w s) (sum-and b (λ p. eqb p (length w)) (row s))
 
@@ -111,25 +111,25 @@ syndrome-add [] w s h = sym (ap (◌⊕ syndrome w s) (syndrome-nil s))
 syndrome-add (a ∷ u) [] s h = absurd (omega arith)
 syndrome-add (a ∷ u) (b ∷ w) s h =
     syndrome-cons (a ⊕ b) (add u w) s
-    ∙ ap₂ ◌⊕◌ (ap (λ n. (a ⊕ b) && onRow s n) (length-add u w) ∙ and_xor a b (onRow s (length w))) (syndrome-add u w s (suc_inj h))
-    ∙ xor-cross (a && onRow s (length w)) (b && onRow s (length w)) (syndrome u s) (syndrome w s)
-    ∙ sym (ap₂ ◌⊕◌ (syndrome-cons a u s ∙ ap (λ n. (a && onRow s n) ⊕ syndrome u s) (suc_inj h)) (syndrome-cons b w s))
+    ∙ ap₂ ◌⊕◌ (ap (λ n. (a ⊕ b) && on_row s n) (length-add u w) ∙ and_xor a b (on_row s (length w))) (syndrome-add u w s (suc_inj h))
+    ∙ xor-cross (a && on_row s (length w)) (b && on_row s (length w)) (syndrome u s) (syndrome w s)
+    ∙ sym (ap₂ ◌⊕◌ (syndrome-cons a u s ∙ ap (λ n. (a && on_row s n) ⊕ syndrome u s) (suc_inj h)) (syndrome-cons b w s))
 
 -- ---- the rows are shifts of one another
 
-unfoldable pub isDifference : ℕ → Bool
-isDifference u = sumOver (eqb u) differences
+unfoldable pub is_difference : ℕ → Bool
+is_difference u = sum_over (eqb u) differences
 
-pub onRow-difference : (s n : ℕ) → s < 273 → n < 273 → onRow s n ≡ isDifference ((s + 273 - n) % 273)
-unfolding onRow isDifference
-onRow-difference s n hs hn =
+pub on_row-difference : (s n : ℕ) → s < 273 → n < 273 → on_row s n ≡ is_difference ((s + 273 - n) % 273)
+unfolding on_row is_difference
+on_row-difference s n hs hn =
     sum-map (λ p. eqb p n) (λ d. (s + 273 - d) % 273) differences
     ∙ sum_same 273 (λ d. eqb ((s + 273 - d) % 273) n) (eqb ((s + 273 - n) % 273)) differences differences-below
     (λ d hd. eqb_same ((s + 273 - d) % 273) n ((s + 273 - n) % 273) d (λ e. omega arith) (λ e. omega arith))
 
-pub onRow-shift : (s n k : ℕ) → s < 273 → n + k < 273 → onRow s (n + k) ≡ onRow ((s + 273 - k) % 273) n
-onRow-shift s n k hs hn =
-    onRow-difference s (n + k) hs hn ∙ ap isDifference (omega arith) ∙ sym (onRow-difference ((s + 273 - k) % 273) n (omega arith) (omega arith))
+pub on_row-shift : (s n k : ℕ) → s < 273 → n + k < 273 → on_row s (n + k) ≡ on_row ((s + 273 - k) % 273) n
+on_row-shift s n k hs hn =
+    on_row-difference s (n + k) hs hn ∙ ap is_difference (omega arith) ∙ sym (on_row-difference ((s + 273 - k) % 273) n (omega arith) (omega arith))
 
 -- the set as the ones of one number, so that the tests below ask one division in place of 17 comparisons
 unfoldable pub marks : List ℕ → ℕ
@@ -145,15 +145,15 @@ alike true false t = absurd t
 alike false true t = absurd t
 alike false false t = refl
 
-marks-test : T (below 273 (λ u. not (isDifference u ⊕ marked (marks differences) u)))
-unfolding below isDifference marks marked differences odd
+marks-test : T (below 273 (λ u. not (is_difference u ⊕ marked (marks differences) u)))
+unfolding below is_difference marks marked differences odd
 marks-test = tt
 
-difference-marked : (u : ℕ) → u < 273 → isDifference u ≡ marked (marks differences) u
-difference-marked u h = alike _ _ (below_at 273 (λ u. not (isDifference u ⊕ marked (marks differences) u)) marks-test u h)
+difference-marked : (u : ℕ) → u < 273 → is_difference u ≡ marked (marks differences) u
+difference-marked u h = alike _ _ (below_at 273 (λ u. not (is_difference u ⊕ marked (marks differences) u)) marks-test u h)
 
-pub onRow-marked : (s n : ℕ) → s < 273 → n < 273 → onRow s n ≡ marked (marks differences) ((s + 273 - n) % 273)
-onRow-marked s n hs hn = onRow-difference s n hs hn ∙ difference-marked ((s + 273 - n) % 273) (omega arith)
+pub on_row-marked : (s n : ℕ) → s < 273 → n < 273 → on_row s n ≡ marked (marks differences) ((s + 273 - n) % 273)
+on_row-marked s n hs hn = on_row-difference s n hs hn ∙ difference-marked ((s + 273 - n) % 273) (omega arith)
 
 -- a word times x^k has on row s the sum of the word on row s - k
 pub syndrome-shift : (k : ℕ) (u : List Bool) (s : ℕ) → s < 273 → length u + k ≤ 273 → syndrome (u ++ zeros k) s ≡ syndrome u ((s + 273 - k) % 273)
@@ -161,60 +161,60 @@ syndrome-shift k [] s hs h = syndrome-zeros k s ∙ sym (syndrome-nil ((s + 273 
 syndrome-shift k (b ∷ u) s hs h =
     syndrome-cons b (u ++ zeros k) s
     ∙ ap₂ (λ t r. (b && t) ⊕ r)
-    (ap (onRow s) (length-append u (zeros k) ∙ ap (length u +◌) (length-replicate k false)) ∙ onRow-shift s (length u) k hs (omega arith))
+    (ap (on_row s) (length-append u (zeros k) ∙ ap (length u +◌) (length-replicate k false)) ∙ on_row-shift s (length u) k hs (omega arith))
     (syndrome-shift k u s hs (omega arith))
     ∙ sym (syndrome-cons b u ((s + 273 - k) % 273))
 
 -- row s - a holds place n exactly if row s - n holds place a
-pub onRow-turn : (s a n : ℕ) → s < 273 → n + a < 273 → onRow ((s + 273 - a) % 273) n ≡ onRow ((s + 273 - n) % 273) a
-onRow-turn s a n hs h =
-    sym (onRow-shift s n a hs h) ∙ ap (onRow s) (let e : n + a ≡ a + n = omega arith in e) ∙ onRow-shift s a n hs (omega arith)
+pub on_row-turn : (s a n : ℕ) → s < 273 → n + a < 273 → on_row ((s + 273 - a) % 273) n ≡ on_row ((s + 273 - n) % 273) a
+on_row-turn s a n hs h =
+    sym (on_row-shift s n a hs h) ∙ ap (on_row s) (let e : n + a ≡ a + n = omega arith in e) ∙ on_row-shift s a n hs (omega arith)
 
 -- ---- every code word has an even sum on each row: one test, over the 273 rows, of the generator
 
 abbrev generator : List Bool
-generator = true ∷ generatorLow
+generator = true ∷ generator_low
 
 -- the sum of the n coefficients u on row s, where m marks the set
-rowSum : (m n : ℕ) → List Bool → ℕ → Bool
-rowSum m zero u s = false
-rowSum m (suc n) [] s = false
-rowSum m (suc n) (b ∷ u) s = (b && marked m ((s + 273 - n) % 273)) ⊕ rowSum m n u s
+row_sum : (m n : ℕ) → List Bool → ℕ → Bool
+row_sum m zero u s = false
+row_sum m (suc n) [] s = false
+row_sum m (suc n) (b ∷ u) s = (b && marked m ((s + 273 - n) % 273)) ⊕ row_sum m n u s
 
-generator-test : T (below 273 (λ s. not (rowSum (marks differences) 83 generator s)))
-unfolding below rowSum marks marked differences odd generatorLow powers poly member
+generator-test : T (below 273 (λ s. not (row_sum (marks differences) 83 generator s)))
+unfolding below row_sum marks marked differences odd generator_low powers poly member
 generator-test = tt
 
-syndrome-rowSum : (u : List Bool) (s : ℕ) → s < 273 → length u ≤ 273 → syndrome u s ≡ rowSum (marks differences) (length u) u s
-unfolding rowSum
-syndrome-rowSum [] s hs h = syndrome-nil s
-syndrome-rowSum (b ∷ u) s hs h =
-    syndrome-cons b u s ∙ ap₂ (λ t r. (b && t) ⊕ r) (onRow-marked s (length u) hs (omega arith)) (syndrome-rowSum u s hs (omega arith))
+syndrome-row_sum : (u : List Bool) (s : ℕ) → s < 273 → length u ≤ 273 → syndrome u s ≡ row_sum (marks differences) (length u) u s
+unfolding row_sum
+syndrome-row_sum [] s hs h = syndrome-nil s
+syndrome-row_sum (b ∷ u) s hs h =
+    syndrome-cons b u s ∙ ap₂ (λ t r. (b && t) ⊕ r) (on_row-marked s (length u) hs (omega arith)) (syndrome-row_sum u s hs (omega arith))
 
 pub generator-even : (k s : ℕ) → s < 273 → k ≤ 190 → syndrome (generator ++ zeros k) s ≡ false
 generator-even k s hs hk =
     syndrome-shift k generator s hs (omega (arith, length-low))
-    ∙ syndrome-rowSum generator ((s + 273 - k) % 273) (omega arith) (omega (arith, length-low))
-    ∙ ap (λ n. rowSum (marks differences) n generator ((s + 273 - k) % 273)) (ap suc length-low)
-    ∙ T_not (rowSum (marks differences) 83 generator ((s + 273 - k) % 273)) (below_at 273 (λ s. not (rowSum (marks differences) 83 generator s)) generator-test ((s + 273 - k) % 273) (omega arith))
+    ∙ syndrome-row_sum generator ((s + 273 - k) % 273) (omega arith) (omega (arith, length-low))
+    ∙ ap (λ n. row_sum (marks differences) n generator ((s + 273 - k) % 273)) (ap suc length-low)
+    ∙ T_not (row_sum (marks differences) 83 generator ((s + 273 - k) % 273)) (below_at 273 (λ s. not (row_sum (marks differences) 83 generator s)) generator-test ((s + 273 - k) % 273) (omega arith))
 
 -- the generator, added at the front of a word, changes no sum
 pub syndrome-generator : (w : List Bool) (s k : ℕ) → s < 273 → k ≤ 190 → length w ≡ k + 83 → syndrome (add generator w) s ≡ syndrome w s
 syndrome-generator w s k hs hk h =
     ap (λ u. syndrome u s) (sym (add-shifted generator k w))
-    ∙ syndrome-add (generator ++ zeros k) w s (omega (arith, length-append generatorLow (zeros k), length-replicate k false, length-low))
+    ∙ syndrome-add (generator ++ zeros k) w s (omega (arith, length-append generator_low (zeros k), length-replicate k false, length-low))
     ∙ ap (◌⊕ syndrome w s) (generator-even k s hs hk)
 
-multiple-even : (m : List Bool) (s : ℕ) → s < 273 → length m ≤ 191 → syndrome (mul generatorLow m) s ≡ false
+multiple-even : (m : List Bool) (s : ℕ) → s < 273 → length m ≤ 191 → syndrome (mul generator_low m) s ≡ false
 unfolding mul scale
-multiple-even [] s hs h = syndrome-zeros (length generatorLow) s
+multiple-even [] s hs h = syndrome-zeros (length generator_low) s
 multiple-even (true ∷ m) s hs h =
-    syndrome-generator (false ∷ mul generatorLow m) s (length m) hs (omega arith) (omega (arith, length-mul generatorLow m, length-low))
-    ∙ syndrome-false (mul generatorLow m) s
+    syndrome-generator (false ∷ mul generator_low m) s (length m) hs (omega arith) (omega (arith, length-mul generator_low m, length-low))
+    ∙ syndrome-false (mul generator_low m) s
     ∙ multiple-even m s hs (omega arith)
 multiple-even (false ∷ m) s hs h =
-    ap (λ u. syndrome u s) (add-zeros (length generator) (false ∷ mul generatorLow m))
-    ∙ syndrome-false (mul generatorLow m) s
+    ap (λ u. syndrome u s) (add-zeros (length generator) (false ∷ mul generator_low m))
+    ∙ syndrome-false (mul generator_low m) s
     ∙ multiple-even m s hs (omega arith)
 
 pub word_even : (c : List Bool) → CodeWord c → (s : ℕ) → s < 273 → syndrome c s ≡ false
@@ -231,12 +231,12 @@ rows_same f g p e =
 turn : (p d k : ℕ) → ((p + d) % 273 + k) % 273 ≡ (d + (p + k) % 273) % 273
 turn p d k = mod-add-mod (p + d) 273 k ∙ ap (◌% 273) (omega arith) ∙ sym (add-mod-mod d (p + k) 273)
 
-onRow-through : (p d n : ℕ) → p < 273 → d < 273 → n < 273 → onRow ((p + d) % 273) n ≡ isDifference ((d + (p + 273 - n) % 273) % 273)
-onRow-through p d n hp hd hn =
-    onRow-difference ((p + d) % 273) n (omega arith) hn
-    ∙ ap (λ m. isDifference (m % 273)) (omega arith)
-    ∙ ap isDifference (turn p d (273 - n))
-    ∙ ap (λ m. isDifference ((d + m % 273) % 273)) (omega arith)
+on_row-through : (p d n : ℕ) → p < 273 → d < 273 → n < 273 → on_row ((p + d) % 273) n ≡ is_difference ((d + (p + 273 - n) % 273) % 273)
+on_row-through p d n hp hd hn =
+    on_row-difference ((p + d) % 273) n (omega arith) hn
+    ∙ ap (λ m. is_difference (m % 273)) (omega arith)
+    ∙ ap is_difference (turn p d (273 - n))
+    ∙ ap (λ m. is_difference ((d + m % 273) % 273)) (omega arith)
 
 -- how many rows two places at distance x share
 abbrev shares : ℕ → ℕ
@@ -247,15 +247,15 @@ difference-test : T (below 273 (λ x. eqb (count (λ d. marked (marks difference
 unfolding below marks marked differences odd digit
 difference-test = tt
 
-shared : (p n : ℕ) → p < 273 → n < 273 → count (λ s. onRow s n) (rows_of p) ≡ shares ((p + 273 - n) % 273)
+shared : (p n : ℕ) → p < 273 → n < 273 → count (λ s. on_row s n) (rows_of p) ≡ shares ((p + 273 - n) % 273)
 shared p n hp hn =
-    count_map (λ s. onRow s n) (λ d. (p + d) % 273) differences
-    ∙ count_same 273 (λ d. onRow ((p + d) % 273) n) (λ d. marked (marks differences) ((d + (p + 273 - n) % 273) % 273)) differences differences-below
-    (λ d hd. onRow-through p d n hp hd hn ∙ difference-marked ((d + (p + 273 - n) % 273) % 273) (omega arith))
+    count_map (λ s. on_row s n) (λ d. (p + d) % 273) differences
+    ∙ count_same 273 (λ d. on_row ((p + d) % 273) n) (λ d. marked (marks differences) ((d + (p + 273 - n) % 273) % 273)) differences differences-below
+    (λ d hd. on_row-through p d n hp hd hn ∙ difference-marked ((d + (p + 273 - n) % 273) % 273) (omega arith))
     ∙ eqb→eq _ _ (below_at 273 (λ x. eqb (count (λ d. marked (marks differences) ((d + x) % 273)) differences) (shares x)) difference-test ((p + 273 - n) % 273) (omega arith))
 
-pub shared-one : (p n : ℕ) → p < 273 → n < 273 → p ≢ n → count (λ s. onRow s n) (rows_of p) ≡ 1
+pub shared-one : (p n : ℕ) → p < 273 → n < 273 → p ≢ n → count (λ s. on_row s n) (rows_of p) ≡ 1
 shared-one p n hp hn ne = shared p n hp hn ∙ ap (λ t. cond t 17 1) (ne_eqb ((p + 273 - n) % 273) 0 (λ e. ne (omega arith)))
 
-pub shared-all : (p : ℕ) → p < 273 → count (λ s. onRow s p) (rows_of p) ≡ 17
+pub shared-all : (p : ℕ) → p < 273 → count (λ s. on_row s p) (rows_of p) ≡ 17
 shared-all p hp = shared p p hp hp ∙ ap (λ t. cond t 17 1) (eq-eqb ((p + 273 - p) % 273) 0 (omega arith))

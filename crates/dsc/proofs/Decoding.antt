@@ -10,8 +10,8 @@ use native.Mathlib.Omega.{arith}
 use lib.ListN.{length}
 use Rattle.bits.specs.Bits.{digit}
 use Rattle.gf2.specs.Polynomial.{add}
-use Rattle.dsc.specs.Code.{CodeWord, dist, isCodeWord}
-use Rattle.dsc.specs.Repair.{ball, Decoded, corrected, beyond, firstCodeWord, decode}
+use Rattle.dsc.specs.Code.{CodeWord, dist, is_code_word}
+use Rattle.dsc.specs.Repair.{ball, Decoded, corrected, beyond, first_code_word, decode}
 use Rattle.dsc.proofs.Word.{length-word, word-tested, tested-word}
 use Rattle.dsc.proofs.Distance.{only_one}
 
@@ -95,37 +95,37 @@ abbrev pub found : Decoded → List Bool
 found (corrected c) = c
 found beyond = []
 
-abbrev pub isFound : Decoded → Bool
-isFound (corrected c) = true
-isFound beyond = false
+abbrev pub is_found : Decoded → Bool
+is_found (corrected c) = true
+is_found beyond = false
 
-pub first_found : (c : List Bool) (ws : List (List Bool)) → isCodeWord c ≡ true → Memᴰ c ws → All (λ w. isCodeWord w ≡ true → w ≡ c) ws → firstCodeWord ws ≡ corrected c
-unfolding firstCodeWord
+pub first_found : (c : List Bool) (ws : List (List Bool)) → is_code_word c ≡ true → Memᴰ c ws → All (λ w. is_code_word w ≡ true → w ≡ c) ws → first_code_word ws ≡ corrected c
+unfolding first_code_word
 first_found c [] k m a = absurd (Memᴰ.not-nil m)
-first_found c (w ∷ ws) k m a = go (isCodeWord w) refl (Memᴰ.cases_cons m) (λ m. first_found c ws k m a.1)
+first_found c (w ∷ ws) k m a = go (is_code_word w) refl (Memᴰ.cases_cons m) (λ m. first_found c ws k m a.1)
   where
-    go : (t : Bool) → isCodeWord w ≡ t → (c ≡ w) ⊎ Memᴰ c ws → (Memᴰ c ws → firstCodeWord ws ≡ corrected c) → cond t (corrected w) (firstCodeWord ws) ≡ corrected c
+    go : (t : Bool) → is_code_word w ≡ t → (c ≡ w) ⊎ Memᴰ c ws → (Memᴰ c ws → first_code_word ws ≡ corrected c) → cond t (corrected w) (first_code_word ws) ≡ corrected c
     go true e m ih = ap corrected (a.0 e)
-    go false e (inl q) ih = absurd (true≢false (sym k ∙ ap isCodeWord q ∙ e))
+    go false e (inl q) ih = absurd (true≢false (sym k ∙ ap is_code_word q ∙ e))
     go false e (inr m) ih = ih m
 
-pub first-none : (ws : List (List Bool)) → All (λ w. isCodeWord w ≡ true → ⊥) ws → firstCodeWord ws ≡ beyond
-unfolding firstCodeWord
+pub first-none : (ws : List (List Bool)) → All (λ w. is_code_word w ≡ true → ⊥) ws → first_code_word ws ≡ beyond
+unfolding first_code_word
 first-none [] a = refl
-first-none (w ∷ ws) a = go (isCodeWord w) refl (first-none ws a.1)
+first-none (w ∷ ws) a = go (is_code_word w) refl (first-none ws a.1)
   where
-    go : (t : Bool) → isCodeWord w ≡ t → firstCodeWord ws ≡ beyond → cond t (corrected w) (firstCodeWord ws) ≡ beyond
+    go : (t : Bool) → is_code_word w ≡ t → first_code_word ws ≡ beyond → cond t (corrected w) (first_code_word ws) ≡ beyond
     go true e ih = absurd (a.0 e)
     go false e ih = ih
 
-pub first-code-word : (P : List Bool → Type 0) (ws : List (List Bool)) (c : List Bool) → All P ws → firstCodeWord ws ≡ corrected c → P c × (isCodeWord c ≡ true)
-unfolding firstCodeWord
-first-code-word P [] c a e = absurd (true≢false (sym (ap isFound e)))
-first-code-word P (w ∷ ws) c a e = go (isCodeWord w) refl e (first-code-word P ws c a.1)
+pub first-code-word : (P : List Bool → Type 0) (ws : List (List Bool)) (c : List Bool) → All P ws → first_code_word ws ≡ corrected c → P c × (is_code_word c ≡ true)
+unfolding first_code_word
+first-code-word P [] c a e = absurd (true≢false (sym (ap is_found e)))
+first-code-word P (w ∷ ws) c a e = go (is_code_word w) refl e (first-code-word P ws c a.1)
   where
-    go : (t : Bool) → isCodeWord w ≡ t → cond t (corrected w) (firstCodeWord ws) ≡ corrected c
-        → (firstCodeWord ws ≡ corrected c → P c × (isCodeWord c ≡ true)) → P c × (isCodeWord c ≡ true)
-    go true q e ih = let same : w ≡ c = ap found e in (subst P same a.0, subst (λ u. isCodeWord u ≡ true) same q)
+    go : (t : Bool) → is_code_word w ≡ t → cond t (corrected w) (first_code_word ws) ≡ corrected c
+        → (first_code_word ws ≡ corrected c → P c × (is_code_word c ≡ true)) → P c × (is_code_word c ≡ true)
+    go true q e ih = let same : w ≡ c = ap found e in (subst P same a.0, subst (λ u. is_code_word u ≡ true) same q)
     go false q e ih = ih e
 
 -- ---- the laws of decode
@@ -135,13 +135,13 @@ module _ (r : List Bool) (h : length r ≡ 187) where
   unfolding decode
   decode-none none =
       first-none (ball 8 r)
-      (all_weaker (Within 8 r) (λ w. isCodeWord w ≡ true → ⊥) (ball 8 r) (λ w n t. none w (tested-word w (n.0 ∙ h) t) n.1) (ball-within 8 r))
+      (all_weaker (Within 8 r) (λ w. is_code_word w ≡ true → ⊥) (ball 8 r) (λ w n t. none w (tested-word w (n.0 ∙ h) t) n.1) (ball-within 8 r))
 
   pub decode-found : (c : List Bool) → CodeWord c → dist r c ≤ 8 → decode r ≡ corrected c
   unfolding decode
   decode-found c k d =
       first_found c (ball 8 r) (word-tested c k) (in-ball 8 r c (length-word c k ∙ sym h, d))
-      (all_weaker (Within 8 r) (λ w. isCodeWord w ≡ true → w ≡ c) (ball 8 r)
+      (all_weaker (Within 8 r) (λ w. is_code_word w ≡ true → w ≡ c) (ball 8 r)
       (λ w n t. only_one w c (tested-word w (n.0 ∙ h) t) k r h n.1 d) (ball-within 8 r))
 
 -- ---- so there is a code word within eight places, or there is none
@@ -158,4 +158,4 @@ nearest r h = go (decode r) refl
     go (corrected c) e =
         let n = first-code-word (Within 8 r) (ball 8 r) c (ball-within 8 r) e in
         one c (tested-word c (n.0.0 ∙ h) n.1) n.0.1
-    go beyond e = none (λ c k d. true≢false (sym (ap isFound (decode-found r h c k d)) ∙ ap isFound e))
+    go beyond e = none (λ c k d. true≢false (sym (ap is_found (decode-found r h c k d)) ∙ ap is_found e))

@@ -16,7 +16,7 @@ use Rattle.dsc.specs.Code.{CodeWord, count, weight, dist}
 use Rattle.dsc.specs.CheckTable.{rows_of, coefficient, syndrome, failures}
 use Rattle.dsc.proofs.Weight.{weight-zeros}
 use Rattle.dsc.proofs.Word.{length-word}
-use Rattle.dsc.proofs.CheckRows.{coefficient-out, coefficient-cons, onRow, syndrome-nil, syndrome-cons, syndrome-false, syndrome-add, word_even, rows_same, shared-one, shared-all}
+use Rattle.dsc.proofs.CheckRows.{coefficient-out, coefficient-cons, on_row, syndrome-nil, syndrome-cons, syndrome-false, syndrome-add, word_even, rows_same, shared-one, shared-all}
 
 -- ---- counts of sums
 
@@ -68,16 +68,16 @@ hits (true ∷ e) p h hp = go (hits e p (omega arith) hp) (eqb p n) refl
     n : ℕ
     n = length e
 
-    now : failures (true ∷ e) p ≡ count (λ s. onRow s n ⊕ syndrome e s) (rows_of p)
-    now = rows_same (syndrome (true ∷ e)) (λ s. onRow s n ⊕ syndrome e s) p (λ s hs. syndrome-cons true e s)
+    now : failures (true ∷ e) p ≡ count (λ s. on_row s n ⊕ syndrome e s) (rows_of p)
+    now = rows_same (syndrome (true ∷ e)) (λ s. on_row s n ⊕ syndrome e s) p (λ s hs. syndrome-cons true e s)
 
-    t : Triangle (count (λ s. onRow s n) (rows_of p)) (failures e p) (count (λ s. onRow s n ⊕ syndrome e s) (rows_of p))
-    t = triangle-count (λ s. onRow s n) (syndrome e) (rows_of p)
+    t : Triangle (count (λ s. on_row s n) (rows_of p)) (failures e p) (count (λ s. on_row s n ⊕ syndrome e s) (rows_of p))
+    t = triangle-count (λ s. on_row s n) (syndrome e) (rows_of p)
 
     go : Hits e p → (b : Bool) → eqb p n ≡ b → Hits (true ∷ e) p
     go ih true q =
         let same : p ≡ n = eqb-true p n q in
-        let all : count (λ s. onRow s n) (rows_of p) ≡ 17 = subst (λ k. count (λ s. onRow s k) (rows_of p) ≡ 17) same (shared-all p hp) in
+        let all : count (λ s. on_row s n) (rows_of p) ≡ 17 = subst (λ k. count (λ s. on_row s k) (rows_of p) ≡ 17) same (shared-all p hp) in
         record {
           missed = λ z. absurd (true≢false (sym (ap (λ b. cond b true (coefficient e p)) q) ∙ z));
           struck = λ z. omega (arith, ih.missed (coefficient-out e p (omega arith)), now, t, all);

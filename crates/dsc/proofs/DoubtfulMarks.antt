@@ -12,16 +12,16 @@ use Rattle.bits.specs.Bits.{digit}
 use Rattle.gf2.specs.Polynomial.{zeros, poly, member, add}
 use Rattle.gf2.proofs.Sum.{length-add, add-to-zeros}
 use Rattle.dsc.specs.Code.{powers, CodeWord, weight, dist}
-use Rattle.dsc.specs.Repair.{protected, word_bytes, repairedTo, refusedWith, number_of, repairOf}
-use Rattle.dsc.specs.Marks.{filled, unmarkedIn, unmarkedDist, Few, markedRepairOf, marked, whole}
-use Rattle.dsc.specs.Worked.{generatorWord, firstPlaces, nextPlace, MarkedWorked}
+use Rattle.dsc.specs.Repair.{protected, word_bytes, repaired_to, refused_with, number_of, repair_of}
+use Rattle.dsc.specs.Marks.{filled, unmarked_in, unmarked_dist, Few, marked_repair_of, marked, whole}
+use Rattle.dsc.specs.Worked.{generator_word, first_places, next_place, MarkedWorked}
 use Rattle.dsc.specs.Promises.{RefusedOrWrong, refused, wrong, HitMarked, NoneFew, FoundOrNone, DoubtfulMarks}
 use Rattle.dsc.specs.Promises as promises
 use Rattle.dsc.specs.declared.Answer.{Answer}
 use Rattle.dsc.proofs.Word.{length-word}
 use Rattle.dsc.proofs.Weight.{weight-zeros}
 use Rattle.dsc.proofs.Distance.{distance18}
-use Rattle.dsc.proofs.Answers.{length-protected, length-wordBytes, protected-wordBytes, repair-found, repair-none, repair-short}
+use Rattle.dsc.proofs.Answers.{length-protected, length-word_bytes, protected-word_bytes, repair-found, repair-none, repair-short}
 use Rattle.dsc.proofs.MarkedDecoding.{MarkedNearest, one, none, marked-apart, marked-only-one, ball-unmarked}
 use Rattle.dsc.proofs.MarkedAnswers.{unmarked-alike, unmarked-dist, whole-frame, whole-marks, sized-whole, marked-short, marked-repair-found, marked-repair-none, marked-repair-nearest, hits-sent}
 use Rattle.dsc.proofs.Worked.{worked}
@@ -45,33 +45,33 @@ short-side f m e = go (eqb (length f) 26) (eqb (length m) 26) refl refl e
     go true true p q z = absurd (true≢false z)
 
 -- what holds of an answer by cases: of one code word's, of refusal 4 where there is none, of refusal 1
-by_cases : (f m : List ℕ) (P : Answer → Type 0) → (whole (marked m) f ≡ false → P (refusedWith 1))
-    → (whole (marked m) f ≡ true → (c : List Bool) → CodeWord c → Few (protected m) (unmarkedDist (protected m) (protected f) c)
-    → P (repairedTo c (unmarkedDist (protected m) (protected f) c)))
-    → (whole (marked m) f ≡ true → NoneFew (protected m) (protected f) → P (refusedWith 4)) → P (markedRepairOf f m)
+by_cases : (f m : List ℕ) (P : Answer → Type 0) → (whole (marked m) f ≡ false → P (refused_with 1))
+    → (whole (marked m) f ≡ true → (c : List Bool) → CodeWord c → Few (protected m) (unmarked_dist (protected m) (protected f) c)
+    → P (repaired_to c (unmarked_dist (protected m) (protected f) c)))
+    → (whole (marked m) f ≡ true → NoneFew (protected m) (protected f) → P (refused_with 4)) → P (marked_repair_of f m)
 by_cases f m P short few far = go (whole (marked m) f) refl
   where
-    full : whole (marked m) f ≡ true → MarkedNearest (protected m) (protected f) → P (markedRepairOf f m)
+    full : whole (marked m) f ≡ true → MarkedNearest (protected m) (protected f) → P (marked_repair_of f m)
     full w (one c k d) = subst P (sym (marked-repair-found f m w c k d)) (few w c k d)
     full w (none n) = subst P (sym (marked-repair-none f m w n)) (far w n)
 
-    go : (t : Bool) → whole (marked m) f ≡ t → P (markedRepairOf f m)
+    go : (t : Bool) → whole (marked m) f ≡ t → P (marked_repair_of f m)
     go false e = subst P (sym (marked-short f m e)) (short e)
     go true e = full e (marked-repair-nearest f m e)
 
-answered : (f m : List ℕ) → whole (marked m) f ≡ true → FoundOrNone (protected m) (protected f) (markedRepairOf f m)
+answered : (f m : List ℕ) → whole (marked m) f ≡ true → FoundOrNone (protected m) (protected f) (marked_repair_of f m)
 answered f m w = go (marked-repair-nearest f m w)
   where
-    go : MarkedNearest (protected m) (protected f) → FoundOrNone (protected m) (protected f) (markedRepairOf f m)
+    go : MarkedNearest (protected m) (protected f) → FoundOrNone (protected m) (protected f) (marked_repair_of f m)
     go (one c k d) = promises.found c k d (marked-repair-found f m w c k d)
     go (none n) = promises.none n (marked-repair-none f m w n)
 
-short-if-refused : (f m : List ℕ) → number_of (markedRepairOf f m) ≡ 1 → (length f ≢ 26) ⊎ (length m ≢ 26)
+short-if-refused : (f m : List ℕ) → number_of (marked_repair_of f m) ≡ 1 → (length f ≢ 26) ⊎ (length m ≢ 26)
 short-if-refused f m =
     by_cases f m (λ (a : Answer). number_of a ≡ 1 → (length f ≢ 26) ⊎ (length m ≢ 26)) (λ e z. short-side f m e) (λ w c k d z. absurd (omega arith))
     (λ w n z. absurd (omega arith))
 
-none-if-refused : (f m : List ℕ) → number_of (markedRepairOf f m) ≡ 4 → (length f ≡ 26) × (length m ≡ 26) × NoneFew (protected m) (protected f)
+none-if-refused : (f m : List ℕ) → number_of (marked_repair_of f m) ≡ 4 → (length f ≡ 26) × (length m ≡ 26) × NoneFew (protected m) (protected f)
 none-if-refused f m =
     by_cases f m (λ (a : Answer). number_of a ≡ 4 → (length f ≡ 26) × (length m ≡ 26) × NoneFew (protected m) (protected f)) (λ e z. absurd (omega arith))
     (λ w c k d z. absurd (omega arith)) (λ w n z. (whole-frame (marked m) f w, whole-marks m f w, n))
@@ -80,25 +80,25 @@ none-if-refused f m =
 
 -- two answers are one, where the sizes are alike and every code word is as far
 alike : (f g m n : List ℕ) → whole (marked m) f ≡ whole (marked n) g → weight (protected m) ≡ weight (protected n)
-    → ((c : List Bool) → unmarkedDist (protected m) (protected f) c ≡ unmarkedDist (protected n) (protected g) c) → markedRepairOf f m ≡ markedRepairOf g n
+    → ((c : List Bool) → unmarked_dist (protected m) (protected f) c ≡ unmarked_dist (protected n) (protected g) c) → marked_repair_of f m ≡ marked_repair_of g n
 alike f g m n e s far =
-    by_cases f m (λ (a : Answer). a ≡ markedRepairOf g n) (λ w. sym (marked-short g n (sym e ∙ w)))
-    (λ w c k d. ap (repairedTo c) (far c) ∙ sym (marked-repair-found g n (sym e ∙ w) c k (omega (arith, far c))))
+    by_cases f m (λ (a : Answer). a ≡ marked_repair_of g n) (λ w. sym (marked-short g n (sym e ∙ w)))
+    (λ w c k d. ap (repaired_to c) (far c) ∙ sym (marked-repair-found g n (sym e ∙ w) c k (omega (arith, far c))))
     (λ w z. sym (marked-repair-none g n (sym e ∙ w) (λ c k d. z c k (omega (arith, far c)))))
 
-under-marks : (f g m : List ℕ) → length f ≡ length g → unmarkedIn (protected m) (protected f) ≡ unmarkedIn (protected m) (protected g)
-    → markedRepairOf f m ≡ markedRepairOf g m
+under-marks : (f g m : List ℕ) → length f ≡ length g → unmarked_in (protected m) (protected f) ≡ unmarked_in (protected m) (protected g)
+    → marked_repair_of f m ≡ marked_repair_of g m
 under-marks f g m l e =
     alike f g m m (ap (λ (x : ℕ). eqb x 26 && eqb (length m) 26) l) refl (λ c. unmarked-alike (protected m) (protected f) (protected g) c e)
 
-marks-outside : (f m n : List ℕ) → length m ≡ length n → protected m ≡ protected n → markedRepairOf f m ≡ markedRepairOf f n
+marks-outside : (f m n : List ℕ) → length m ≡ length n → protected m ≡ protected n → marked_repair_of f m ≡ marked_repair_of f n
 marks-outside f m n l e =
-    alike f f m n (ap (λ (x : ℕ). eqb (length f) 26 && eqb x 26) l) (ap weight e) (λ c. ap (λ (x : List Bool). unmarkedDist x (protected f) c) e)
+    alike f f m n (ap (λ (x : ℕ). eqb (length f) 26 && eqb x 26) l) (ap weight e) (λ c. ap (λ (x : List Bool). unmarked_dist x (protected f) c) e)
 
-no-marks : (f m : List ℕ) → length m ≡ 26 → protected m ≡ zeros 187 → markedRepairOf f m ≡ repairOf f
+no-marks : (f m : List ℕ) → length m ≡ 26 → protected m ≡ zeros 187 → marked_repair_of f m ≡ repair_of f
 no-marks f m h e =
-    by_cases f m (λ (a : Answer). a ≡ repairOf f) (λ w. sym (repair-short f (λ l. no_size l (short-side f m w))))
-    (λ w c k d. ap (repairedTo c) (all-count c k) ∙ sym (repair-found f (whole-frame (marked m) f w) c k (omega (arith, all-count c k, none-set))))
+    by_cases f m (λ (a : Answer). a ≡ repair_of f) (λ w. sym (repair-short f (λ l. no_size l (short-side f m w))))
+    (λ w c k d. ap (repaired_to c) (all-count c k) ∙ sym (repair-found f (whole-frame (marked m) f w) c k (omega (arith, all-count c k, none-set))))
     (λ w z. sym (repair-none f (whole-frame (marked m) f w) (λ c k d. z c k (omega (arith, all-count c k, none-set)))))
   where
     no_size : length f ≡ 26 → (length f ≢ 26) ⊎ (length m ≢ 26) → ⊥
@@ -108,7 +108,7 @@ no-marks f m h e =
     none-set : weight (protected m) ≡ 0
     none-set = ap weight e ∙ weight-zeros 187
 
-    all-count : (c : List Bool) → CodeWord c → unmarkedDist (protected m) (protected f) c ≡ dist (protected f) c
+    all-count : (c : List Bool) → CodeWord c → unmarked_dist (protected m) (protected f) c ≡ dist (protected f) c
     all-count c k = unmarked-dist (protected m) (protected f) c e (length-add (protected f) c ∙ length-word c k)
 
 -- ---- hits
@@ -117,36 +117,36 @@ module _ {t s : ℕ} {c e : List Bool} {f m : List ℕ} (h : HitMarked t s c e f
   complete : whole (marked m) f ≡ true
   complete = sized-whole (marked m) f h.size h.marks-size
 
-  from-sent : unmarkedDist (protected m) (protected f) c ≡ t
+  from-sent : unmarked_dist (protected m) (protected f) c ≡ t
   from-sent = hits-sent (marked m) f c e h.sent h.places h.received ∙ h.number
 
-  sent_word : 2 * t + s ≤ 17 → markedRepairOf f m ≡ repairedTo c t
-  sent_word l = marked-repair-found f m complete c h.sent (omega (arith, from-sent, h.marks)) ∙ ap (repairedTo c) from-sent
+  sent_word : 2 * t + s ≤ 17 → marked_repair_of f m ≡ repaired_to c t
+  sent_word l = marked-repair-found f m complete c h.sent (omega (arith, from-sent, h.marks)) ∙ ap (repaired_to c) from-sent
 
-  module _ (l : 18 ≤ 2 * t + s) (d : List Bool) (k : CodeWord d) (w : Few (protected m) (unmarkedDist (protected m) (protected f) d)) where
+  module _ (l : 18 ≤ 2 * t + s) (d : List Bool) (k : CodeWord d) (w : Few (protected m) (unmarked_dist (protected m) (protected f) d)) where
     not-sent : d ≢ c
-    not-sent same = omega (arith, from-sent, h.marks, ap (unmarkedDist (protected m) (protected f)) same)
+    not-sent same = omega (arith, from-sent, h.marks, ap (unmarked_dist (protected m) (protected f)) same)
 
-    from-other : 18 ≤ t + unmarkedDist (protected m) (protected f) d + s
+    from-other : 18 ≤ t + unmarked_dist (protected m) (protected f) d + s
     from-other =
         let far : 18 ≤ dist c d = distance18 c d h.sent k (λ same. not-sent (sym same)) in
         let near = marked-apart (protected m) (protected f) (length-protected m h.marks-size) (length-protected f h.size) c d h.sent k in
         omega (arith, from-sent, h.marks)
 
-  beyond : 18 ≤ 2 * t + s → RefusedOrWrong (λ u. (2 * u + s ≤ 17) × (18 ≤ t + u + s)) c (markedRepairOf f m)
+  beyond : 18 ≤ 2 * t + s → RefusedOrWrong (λ u. (2 * u + s ≤ 17) × (18 ≤ t + u + s)) c (marked_repair_of f m)
   beyond l = go (marked-repair-nearest f m complete)
     where
-      go : MarkedNearest (protected m) (protected f) → RefusedOrWrong (λ u. (2 * u + s ≤ 17) × (18 ≤ t + u + s)) c (markedRepairOf f m)
+      go : MarkedNearest (protected m) (protected f) → RefusedOrWrong (λ u. (2 * u + s ≤ 17) × (18 ≤ t + u + s)) c (marked_repair_of f m)
       go (one d k w) =
-          wrong d (unmarkedDist (protected m) (protected f) d) k (not-sent l d k w) (omega (arith, h.marks), from-other l d k w) (omega arith)
+          wrong d (unmarked_dist (protected m) (protected f) d) k (not-sent l d k w) (omega (arith, h.marks), from-other l d k w) (omega arith)
           (marked-repair-found f m complete d k w)
       go (none z) = refused (marked-repair-none f m complete z)
 
   -- where no count of a wrong word is possible
-  only-refused : 18 ≤ 2 * t + s → ((u : ℕ) → 2 * u + s ≤ 17 → 18 ≤ t + u + s → ⊥) → markedRepairOf f m ≡ refusedWith 4
+  only-refused : 18 ≤ 2 * t + s → ((u : ℕ) → 2 * u + s ≤ 17 → 18 ≤ t + u + s → ⊥) → marked_repair_of f m ≡ refused_with 4
   only-refused l no-count = go (beyond l)
     where
-      go : RefusedOrWrong (λ u. (2 * u + s ≤ 17) × (18 ≤ t + u + s)) c (markedRepairOf f m) → markedRepairOf f m ≡ refusedWith 4
+      go : RefusedOrWrong (λ u. (2 * u + s ≤ 17) × (18 ≤ t + u + s)) c (marked_repair_of f m) → marked_repair_of f m ≡ refused_with 4
       go (refused e) = e
       go (wrong d u k n p q e) = absurd (no-count u p.0 p.1)
 
@@ -171,44 +171,44 @@ doubtful-marks =
       many-marks = λ f m hf hm l. marked-repair-none f m (sized-whole (marked m) f hf hm) (λ c k d. omega arith);
       held = λ c e ms k le lm.
           record {
-            size = length-wordBytes (add e c);
-            marks-size = length-wordBytes ms;
+            size = length-word_bytes (add e c);
+            marks-size = length-word_bytes ms;
             sent = k;
             places = le;
-            number = ap (λ (x : List Bool). weight (unmarkedIn x e)) (protected-wordBytes ms lm);
-            marks = ap weight (protected-wordBytes ms lm);
-            received = protected-wordBytes (add e c) (length-add e c ∙ length-word c k);
+            number = ap (λ (x : List Bool). weight (unmarked_in x e)) (protected-word_bytes ms lm);
+            marks = ap weight (protected-word_bytes ms lm);
+            received = protected-word_bytes (add e c) (length-add e c ∙ length-word c k);
           };
     }
 
 -- ---- the worked examples
 
 -- the code word c, hit in the places of e, is r
-marks-held : (t s : ℕ) (c e r ms : List Bool) → CodeWord c → length e ≡ 187 → length r ≡ 187 → length ms ≡ 187 → weight (unmarkedIn ms e) ≡ t → weight ms ≡ s
+marks-held : (t s : ℕ) (c e r ms : List Bool) → CodeWord c → length e ≡ 187 → length r ≡ 187 → length ms ≡ 187 → weight (unmarked_in ms e) ≡ t → weight ms ≡ s
     → r ≡ add e c → HitMarked t s c e (word_bytes r) (word_bytes ms)
 marks-held t s c e r ms k le lr lm n w a =
     record {
-      size = length-wordBytes r;
-      marks-size = length-wordBytes ms;
+      size = length-word_bytes r;
+      marks-size = length-word_bytes ms;
       sent = k;
       places = le;
-      number = ap (λ (x : List Bool). weight (unmarkedIn x e)) (protected-wordBytes ms lm) ∙ n;
-      marks = ap weight (protected-wordBytes ms lm) ∙ w;
-      received = protected-wordBytes r lr ∙ a;
+      number = ap (λ (x : List Bool). weight (unmarked_in x e)) (protected-word_bytes ms lm) ∙ n;
+      marks = ap weight (protected-word_bytes ms lm) ∙ w;
+      received = protected-word_bytes r lr ∙ a;
     }
 
 pub marked-worked : MarkedWorked
-unfolding firstPlaces nextPlace generatorWord powers poly member add filled digit
+unfolding first_places next_place generator_word powers poly member add filled digit
 marked-worked =
     record {
-      seventeen = sent_word (marks-held 0 17 (zeros 187) (zeros 187) (zeros 187) (firstPlaces 17) zero refl refl refl refl refl refl) (omega arith);
+      seventeen = sent_word (marks-held 0 17 (zeros 187) (zeros 187) (zeros 187) (first_places 17) zero refl refl refl refl refl refl) (omega arith);
       seventeen-and-one =
-          sent_word (marks-held 0 17 generatorWord (firstPlaces 17) (nextPlace 17) (firstPlaces 17) worked.example2 refl refl refl refl refl refl) (omega arith);
+          sent_word (marks-held 0 17 generator_word (first_places 17) (next_place 17) (first_places 17) worked.example2 refl refl refl refl refl refl) (omega arith);
       sixteen-and-one =
-          only-refused (marks-held 1 16 (zeros 187) (nextPlace 16) (nextPlace 16) (firstPlaces 16) zero refl refl refl refl refl refl) (omega arith) (λ u p q. omega arith);
-      fifteen-and-one = sent_word (marks-held 1 15 (zeros 187) (nextPlace 15) (nextPlace 15) (firstPlaces 15) zero refl refl refl refl refl refl) (omega arith);
+          only-refused (marks-held 1 16 (zeros 187) (next_place 16) (next_place 16) (first_places 16) zero refl refl refl refl refl refl) (omega arith) (λ u p q. omega arith);
+      fifteen-and-one = sent_word (marks-held 1 15 (zeros 187) (next_place 15) (next_place 15) (first_places 15) zero refl refl refl refl refl refl) (omega arith);
       eighteen-marks =
-          only-refused (marks-held 0 18 (zeros 187) (zeros 187) (zeros 187) (firstPlaces 18) zero refl refl refl refl refl refl) (omega arith) (λ u p q. omega arith);
+          only-refused (marks-held 0 18 (zeros 187) (zeros 187) (zeros 187) (first_places 18) zero refl refl refl refl refl refl) (omega arith) (λ u p q. omega arith);
     }
   where
     zero : CodeWord (zeros 187)

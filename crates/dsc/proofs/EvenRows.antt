@@ -12,16 +12,16 @@ use Rattle.bits.specs.Bits.{odd}
 use Rattle.gf2.specs.Polynomial.{◌⊕◌, zeros, add, scale, remainder}
 use Rattle.gf2.proofs.Sum.{xor-false, length-add, add-zeros, add-self}
 use Rattle.gf2.proofs.Division.{length-remainder}
-use Rattle.dsc.specs.Code.{powers, generatorLow, CodeWord}
-use Rattle.dsc.specs.CheckTable.{differences, sumOver, syndrome}
+use Rattle.dsc.specs.Code.{powers, generator_low, CodeWord}
+use Rattle.dsc.specs.CheckTable.{differences, sum_over, syndrome}
 use Rattle.dsc.proofs.Word.{length-low, divided-word}
-use Rattle.dsc.proofs.CheckRows.{sum-xor, sum-and, sum-none, sum_same, onRow, onRow-turn, marks, marked, onRow-marked, syndrome-nil, syndrome-cons, syndrome-false, syndrome-generator}
+use Rattle.dsc.proofs.CheckRows.{sum-xor, sum-and, sum-none, sum_same, on_row, on_row-turn, marks, marked, on_row-marked, syndrome-nil, syndrome-cons, syndrome-false, syndrome-generator}
 
 -- ---- sums of several rows: the rows s - a, for the numbers a of a list
 
 -- the sum of w on those rows together
 mixed : List ℕ → List Bool → ℕ → Bool
-mixed offsets w s = sumOver (λ a. syndrome w ((s + 273 - a) % 273)) offsets
+mixed offsets w s = sum_over (λ a. syndrome w ((s + 273 - a) % 273)) offsets
 
 -- on how many of the rows s - a a place lies, odd or even, is told by row s - n
 module _ (offsets : List ℕ) (m : ℕ) (t : T (all_below m offsets)) where
@@ -31,18 +31,18 @@ module _ (offsets : List ℕ) (m : ℕ) (t : T (all_below m offsets)) where
       sum_same m (λ a. syndrome w ((s + 273 - a) % 273)) (λ a. false) offsets t (λ a ha. e ((s + 273 - a) % 273) (omega arith)) ∙ sum-none offsets
 
   mixed-cons : (b : Bool) (w : List Bool) (s : ℕ) → s < 273 → length w + m ≤ 273
-      → mixed offsets (b ∷ w) s ≡ (b && sumOver (onRow ((s + 273 - length w) % 273)) offsets) ⊕ mixed offsets w s
+      → mixed offsets (b ∷ w) s ≡ (b && sum_over (on_row ((s + 273 - length w) % 273)) offsets) ⊕ mixed offsets w s
   unfolding mixed
   mixed-cons b w s hs h =
-      sum_same m (λ a. syndrome (b ∷ w) ((s + 273 - a) % 273)) (λ a. (b && onRow ((s + 273 - length w) % 273) a) ⊕ syndrome w ((s + 273 - a) % 273)) offsets t
-      (λ a ha. syndrome-cons b w ((s + 273 - a) % 273) ∙ ap (λ x. (b && x) ⊕ syndrome w ((s + 273 - a) % 273)) (onRow-turn s a (length w) hs (omega arith)))
-      ∙ sum-xor (λ a. b && onRow ((s + 273 - length w) % 273) a) (λ a. syndrome w ((s + 273 - a) % 273)) offsets
-      ∙ ap (◌⊕ mixed offsets w s) (sum-and b (onRow ((s + 273 - length w) % 273)) offsets)
+      sum_same m (λ a. syndrome (b ∷ w) ((s + 273 - a) % 273)) (λ a. (b && on_row ((s + 273 - length w) % 273) a) ⊕ syndrome w ((s + 273 - a) % 273)) offsets t
+      (λ a ha. syndrome-cons b w ((s + 273 - a) % 273) ∙ ap (λ x. (b && x) ⊕ syndrome w ((s + 273 - a) % 273)) (on_row-turn s a (length w) hs (omega arith)))
+      ∙ sum-xor (λ a. b && on_row ((s + 273 - length w) % 273) a) (λ a. syndrome w ((s + 273 - a) % 273)) offsets
+      ∙ ap (◌⊕ mixed offsets w s) (sum-and b (on_row ((s + 273 - length w) % 273)) offsets)
 
   -- and that is told by the marks of the set
-  rows-marked : (u : ℕ) → u < 273 → m ≤ 273 → sumOver (onRow u) offsets ≡ sumOver (λ n. marked (marks differences) ((u + 273 - n) % 273)) offsets
+  rows-marked : (u : ℕ) → u < 273 → m ≤ 273 → sum_over (on_row u) offsets ≡ sum_over (λ n. marked (marks differences) ((u + 273 - n) % 273)) offsets
   rows-marked u hu hm =
-      sum_same m (onRow u) (λ n. marked (marks differences) ((u + 273 - n) % 273)) offsets t (λ n hn. onRow-marked u n hu (omega arith))
+      sum_same m (on_row u) (λ n. marked (marks differences) ((u + 273 - n) % 273)) offsets t (λ n hn. on_row-marked u n hu (omega arith))
 
 -- ---- a certificate: the rows 0, 4, 6, .. together hold the place 191 and none of the 81 places after it
 
@@ -54,7 +54,7 @@ unfolding certificate
 certificate-below = tt
 
 held : ℕ → Bool
-held u = sumOver (λ n. marked (marks differences) ((u + 273 - n) % 273)) certificate
+held u = sum_over (λ n. marked (marks differences) ((u + 273 - n) % 273)) certificate
 
 held_first : held 191 ≡ true
 unfolding held certificate marks marked differences odd
@@ -64,7 +64,7 @@ held_after : T (below 81 (λ i. not (held (192 + i))))
 unfolding below held certificate marks marked differences odd
 held_after = tt
 
-held-marked : (u : ℕ) → u < 273 → sumOver (onRow u) certificate ≡ held u
+held-marked : (u : ℕ) → u < 273 → sum_over (on_row u) certificate ≡ held u
 unfolding held
 held-marked u h = rows-marked certificate 100 certificate-below u h (omega arith)
 
@@ -101,34 +101,34 @@ even-zeros (b ∷ r) h e = ap₂ ◌∷◌ none (even-zeros r (omega arith) (λ 
 
 -- ---- division leaves the sums as they are
 
-pub remainder-syndrome : (k : ℕ) (w : List Bool) (s : ℕ) → s < 273 → k ≤ 190 → length w ≡ k + 82 → syndrome (remainder generatorLow k w) s ≡ syndrome w s
+pub remainder-syndrome : (k : ℕ) (w : List Bool) (s : ℕ) → s < 273 → k ≤ 190 → length w ≡ k + 82 → syndrome (remainder generator_low k w) s ≡ syndrome w s
 unfolding remainder scale add
 remainder-syndrome zero w s hs hk h = refl
 remainder-syndrome (suc k) [] s hs hk h = absurd (omega arith)
 remainder-syndrome (suc k) (false ∷ w) s hs hk h =
-    remainder-syndrome k (add (zeros (length generatorLow)) w) s hs (omega arith) (length-add (zeros (length generatorLow)) w ∙ omega arith)
-    ∙ ap (λ u. syndrome u s) (add-zeros (length generatorLow) w)
+    remainder-syndrome k (add (zeros (length generator_low)) w) s hs (omega arith) (length-add (zeros (length generator_low)) w ∙ omega arith)
+    ∙ ap (λ u. syndrome u s) (add-zeros (length generator_low) w)
     ∙ sym (syndrome-false w s)
 remainder-syndrome (suc k) (true ∷ w) s hs hk h =
-    remainder-syndrome k (add generatorLow w) s hs (omega arith) (length-add generatorLow w ∙ omega arith)
-    ∙ sym (syndrome-false (add generatorLow w) s)
-    ∙ sym (syndrome-generator (false ∷ add generatorLow w) s k hs (omega arith) (omega (arith, length-add generatorLow w)))
-    ∙ ap (λ u. syndrome (true ∷ u) s) (add-self generatorLow w)
+    remainder-syndrome k (add generator_low w) s hs (omega arith) (length-add generator_low w ∙ omega arith)
+    ∙ sym (syndrome-false (add generator_low w) s)
+    ∙ sym (syndrome-generator (false ∷ add generator_low w) s k hs (omega arith) (omega (arith, length-add generator_low w)))
+    ∙ ap (λ u. syndrome (true ∷ u) s) (add-self generator_low w)
 
 pub even-word : (w : List Bool) → length w ≡ 187 → ((s : ℕ) → s < 273 → syndrome w s ≡ false) → CodeWord w
 even-word w h e =
     divided-word w h (even-zeros r (omega (arith, long)) (λ s hs. remainder-syndrome 105 w s hs (omega arith) h ∙ e s hs) ∙ ap zeros long)
   where
     r : List Bool
-    r = remainder generatorLow 105 w
+    r = remainder generator_low 105 w
 
     long : length r ≡ 82
-    long = length-remainder generatorLow 105 w (h ∙ ap (105 +◌) (sym length-low)) ∙ length-low
+    long = length-remainder generator_low 105 w (h ∙ ap (105 +◌) (sym length-low)) ∙ length-low
 
 -- ---- any 82 neighbouring rows decide, since each row is the sum of 17 of the 82 before it
 
 -- every place is on an even number of the rows s - k, for the powers k of the generator
-powers-test : T (below 273 (λ s. not (sumOver (λ n. marked (marks differences) ((s + 273 - n) % 273)) powers)))
+powers-test : T (below 273 (λ s. not (sum_over (λ n. marked (marks differences) ((s + 273 - n) % 273)) powers)))
 unfolding below marks marked differences odd powers
 powers-test = tt
 
@@ -142,7 +142,7 @@ mixed-powers (b ∷ w) s hs h =
     mixed-cons powers 83 powers-below b w s hs (omega arith)
     ∙ ap₂ (λ t u. (b && t) ⊕ u)
     (rows-marked powers 83 powers-below ((s + 273 - length w) % 273) (omega arith) (omega arith)
-    ∙ T_not _ (below_at 273 (λ s. not (sumOver (λ n. marked (marks differences) ((s + 273 - n) % 273)) powers)) powers-test ((s + 273 - length w) % 273) (omega arith)))
+    ∙ T_not _ (below_at 273 (λ s. not (sum_over (λ n. marked (marks differences) ((s + 273 - n) % 273)) powers)) powers-test ((s + 273 - length w) % 273) (omega arith)))
     (mixed-powers w s hs (omega arith))
     ∙ ap (◌⊕ false) (and-false b)
 
@@ -155,14 +155,14 @@ within [] = true
 within (k ∷ ks) = ltb 0 k && (ltb k 83 && within ks)
 
 -- a sum of which all but the last term vanish
-last : (f : ℕ → Bool) (ks : List ℕ) → T (within ks) → ((k : ℕ) → 0 < k → k < 83 → f k ≡ false) → sumOver f (ks ++ 0 ∷ []) ≡ f 0
+last : (f : ℕ → Bool) (ks : List ℕ) → T (within ks) → ((k : ℕ) → 0 < k → k < 83 → f k ≡ false) → sum_over f (ks ++ 0 ∷ []) ≡ f 0
 last f [] t e = xor-false (f 0)
 last f (k ∷ ks) t e =
     let r = and_right (ltb 0 k) (ltb k 83 && within ks) t in
     ap₂ ◌⊕◌ (e k (ltb→lt 0 k (and_left (ltb 0 k) (ltb k 83 && within ks) t)) (ltb→lt k 83 (and_left (ltb k 83) (within ks) r)))
     (last f ks (and_right (ltb k 83) (within ks) r) e)
 
-last-power : (f : ℕ → Bool) → ((k : ℕ) → 0 < k → k < 83 → f k ≡ false) → sumOver f powers ≡ f 0
+last-power : (f : ℕ → Bool) → ((k : ℕ) → 0 < k → k < 83 → f k ≡ false) → sum_over f powers ≡ f 0
 unfolding powers upper
 last-power f e = last f upper tt e
 

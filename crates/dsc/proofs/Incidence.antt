@@ -12,8 +12,8 @@ use Rattle.bits.proofs.Computed.{and_left, and_right, T_not, T-same, eqb_same, b
 use Rattle.gf2.specs.Polynomial.{◌⊕◌, member}
 use Rattle.bits.specs.Bits.{digit}
 use Rattle.dsc.specs.Code.{count}
-use Rattle.dsc.specs.CheckTable.{upto, differences, row, rows_of, sumOver}
-use Rattle.dsc.proofs.CheckRows.{sum-map, sum_same, differences-below, onRow, onRow-difference, isDifference, rows_same, shared-one}
+use Rattle.dsc.specs.CheckTable.{upto, differences, row, rows_of, sum_over}
+use Rattle.dsc.proofs.CheckRows.{sum-map, sum_same, differences-below, on_row, on_row-difference, is_difference, rows_same, shared-one}
 
 -- ---- counts over 0 .. n - 1
 
@@ -61,7 +61,7 @@ count-never (suc n) q = omega (arith, count-never n q)
 -- no number stands twice in the list
 abbrev distinct : List ℕ → Bool
 distinct [] = true
-distinct (d ∷ ds) = not (sumOver (eqb d) ds) && distinct ds
+distinct (d ∷ ds) = not (sum_over (eqb d) ds) && distinct ds
 
 differences-distinct : T (distinct differences)
 unfolding differences
@@ -69,11 +69,11 @@ differences-distinct = tt
 
 module _ (p : ℕ) (hp : p < 273) (q : ℕ → Bool) where
   through : (ds : List ℕ) → T (all_below 273 ds) → T (distinct ds)
-      → count (λ s. sumOver (eqb s) (map (λ d. (p + d) % 273) ds) && q s) (upto 273) ≡ count q (map (λ d. (p + d) % 273) ds)
+      → count (λ s. sum_over (eqb s) (map (λ d. (p + d) % 273) ds) && q s) (upto 273) ≡ count q (map (λ d. (p + d) % 273) ds)
   through [] t f = count-never 273 q
   through (d ∷ ds) t f =
-      count-apart 273 (λ s. eqb s l) (λ s. sumOver (eqb s) (map (λ d. (p + d) % 273) ds)) q once
-      ∙ ap₂ ◌+◌ (count-one 273 l q (omega arith)) (through ds (and_right (ltb d 273) (all_below 273 ds) t) (and_right (not (sumOver (eqb d) ds)) (distinct ds) f))
+      count-apart 273 (λ s. eqb s l) (λ s. sum_over (eqb s) (map (λ d. (p + d) % 273) ds)) q once
+      ∙ ap₂ ◌+◌ (count-one 273 l q (omega arith)) (through ds (and_right (ltb d 273) (all_below 273 ds) t) (and_right (not (sum_over (eqb d) ds)) (distinct ds) f))
     where
       l : ℕ
       l = (p + d) % 273
@@ -81,24 +81,24 @@ module _ (p : ℕ) (hp : p < 273) (q : ℕ → Bool) where
       hd : d < 273
       hd = ltb→lt d 273 (and_left (ltb d 273) (all_below 273 ds) t)
 
-      not-again : sumOver (eqb l) (map (λ d. (p + d) % 273) ds) ≡ false
+      not-again : sum_over (eqb l) (map (λ d. (p + d) % 273) ds) ≡ false
       not-again =
           sum-map (eqb l) (λ d. (p + d) % 273) ds
           ∙ sum_same 273 (λ d'. eqb l ((p + d') % 273)) (eqb d) ds (and_right (ltb d 273) (all_below 273 ds) t)
           (λ d' h. eqb_same l ((p + d') % 273) d d' (λ e. omega (arith, hd)) (λ e. omega arith))
-          ∙ T_not (sumOver (eqb d) ds) (and_left (not (sumOver (eqb d) ds)) (distinct ds) f)
+          ∙ T_not (sum_over (eqb d) ds) (and_left (not (sum_over (eqb d) ds)) (distinct ds) f)
 
-      once : (s : ℕ) → eqb s l && sumOver (eqb s) (map (λ d. (p + d) % 273) ds) ≡ false
+      once : (s : ℕ) → eqb s l && sum_over (eqb s) (map (λ d. (p + d) % 273) ds) ≡ false
       once s = go (eqb s l) refl
         where
-          go : (b : Bool) → eqb s l ≡ b → b && sumOver (eqb s) (map (λ d. (p + d) % 273) ds) ≡ false
-          go true e = ap (λ k. sumOver (eqb k) (map (λ d. (p + d) % 273) ds)) (eqb-true s l e) ∙ not-again
+          go : (b : Bool) → eqb s l ≡ b → b && sum_over (eqb s) (map (λ d. (p + d) % 273) ds) ≡ false
+          go true e = ap (λ k. sum_over (eqb k) (map (λ d. (p + d) % 273) ds)) (eqb-true s l e) ∙ not-again
           go false e = refl
 
 -- ---- membership in a row, and the sum over it
 
-member-test : T (below 273 (λ u. beq (member u differences) (isDifference u)))
-unfolding below isDifference differences member
+member-test : T (below 273 (λ u. beq (member u differences) (is_difference u)))
+unfolding below is_difference differences member
 member-test = tt
 
 member-map : (p u : ℕ) (h : ℕ → ℕ) (ds : List ℕ) → T (all_below 273 ds) → ((d : ℕ) → d < 273 → eqb p (h d) ≡ eqb u d) → member p (map h ds) ≡ member u ds
@@ -107,17 +107,17 @@ member-map p u h [] t e = refl
 member-map p u h (d ∷ ds) t e =
     ap₂ ◌||◌ (e d (ltb→lt d 273 (and_left (ltb d 273) (all_below 273 ds) t))) (member-map p u h ds (and_right (ltb d 273) (all_below 273 ds) t) e)
 
-member-onRow : (s p : ℕ) → s < 273 → p < 273 → member p (row s) ≡ onRow s p
-member-onRow s p hs hp =
+member-on_row : (s p : ℕ) → s < 273 → p < 273 → member p (row s) ≡ on_row s p
+member-on_row s p hs hp =
     member-map p ((s + 273 - p) % 273) (λ d. (s + 273 - d) % 273) differences differences-below
     (λ d hd. eqb_same p ((s + 273 - d) % 273) ((s + 273 - p) % 273) d (λ e. omega arith) (λ e. omega arith))
-    ∙ T-same (member ((s + 273 - p) % 273) differences) (isDifference ((s + 273 - p) % 273))
-    (below_at 273 (λ u. beq (member u differences) (isDifference u)) member-test ((s + 273 - p) % 273) (omega arith))
-    ∙ sym (onRow-difference s p hs hp)
+    ∙ T-same (member ((s + 273 - p) % 273) differences) (is_difference ((s + 273 - p) % 273))
+    (below_at 273 (λ u. beq (member u differences) (is_difference u)) member-test ((s + 273 - p) % 273) (omega arith))
+    ∙ sym (on_row-difference s p hs hp)
 
-onRow-through : (s p : ℕ) → s < 273 → p < 273 → onRow s p ≡ sumOver (eqb s) (rows_of p)
-unfolding onRow
-onRow-through s p hs hp =
+on_row-through : (s p : ℕ) → s < 273 → p < 273 → on_row s p ≡ sum_over (eqb s) (rows_of p)
+unfolding on_row
+on_row-through s p hs hp =
     sum-map (λ x. eqb x p) (λ d. (s + 273 - d) % 273) differences
     ∙ sum_same 273 (λ d. eqb ((s + 273 - d) % 273) p) (λ d. eqb s ((p + d) % 273)) differences differences-below
     (λ d hd. eqb_same ((s + 273 - d) % 273) p s ((p + d) % 273) (λ e. omega arith) (λ e. omega arith))
@@ -128,8 +128,8 @@ onRow-through s p hs hp =
 -- what is counted over the rows that hold p, is counted over the 17 rows p + d
 pub over-rows : (p : ℕ) → p < 273 → (q : ℕ → Bool) → count (λ s. member p (row s) && q s) (upto 273) ≡ count q (rows_of p)
 over-rows p hp q =
-    count-upto 273 (λ s. member p (row s) && q s) (λ s. sumOver (eqb s) (rows_of p) && q s)
-    (λ s hs. ap (◌&& q s) (member-onRow s p hs hp ∙ onRow-through s p hs hp))
+    count-upto 273 (λ s. member p (row s) && q s) (λ s. sum_over (eqb s) (rows_of p) && q s)
+    (λ s hs. ap (◌&& q s) (member-on_row s p hs hp ∙ on_row-through s p hs hp))
     ∙ through p hp q differences differences-below differences-distinct
 
 count-all : (xs : List ℕ) → count (λ s. true) xs ≡ length xs
@@ -147,5 +147,5 @@ on-seventeen p hp =
 pub share-one : (p q : ℕ) → p < 273 → q < 273 → p ≢ q → count (λ s. member p (row s) && member q (row s)) (upto 273) ≡ 1
 share-one p q hp hq ne =
     over-rows p hp (λ s. member q (row s))
-    ∙ rows_same (λ s. member q (row s)) (λ s. onRow s q) p (λ s hs. member-onRow s q hs hq)
+    ∙ rows_same (λ s. member q (row s)) (λ s. on_row s q) p (λ s hs. member-on_row s q hs hq)
     ∙ shared-one p q hp hq ne

@@ -11,9 +11,9 @@ use lib.ListN.{length}
 use borrow.Author.Tests.{eq-eqb, ne_eqb, le-leb, lt-leb}
 use Rattle.gf2.specs.Polynomial.{◌⊕◌, add}
 use Rattle.gf2.proofs.Sum.{length-add, add-self}
-use Rattle.dsc.specs.Code.{CodeWord, dist, isCodeWord}
+use Rattle.dsc.specs.Code.{CodeWord, dist, is_code_word}
 use Rattle.dsc.specs.CheckTable.{coefficient, failures}
-use Rattle.dsc.specs.Repair.{beyond, decode, repairedTo, refusedWith, answerTo}
+use Rattle.dsc.specs.Repair.{beyond, decode, repaired_to, refused_with, answer_to}
 use Rattle.dsc.specs.Majority.{flipped}
 use Rattle.dsc.proofs.Word.{length-word, word-tested, tested-word}
 use Rattle.dsc.proofs.Distance.{Hits, hits, error-failures}
@@ -64,11 +64,11 @@ flipped-none r h n =
 -- ---- the answer to 187 bits, as an engine comes to it
 
 module _ (r : List Bool) (h : length r ≡ 187) where
-  pub answer-found : (c : List Bool) (n : ℕ) → isCodeWord c ≡ true → length c ≡ 187 → n ≡ dist r c → n ≤ 8 → repairedTo c n ≡ answerTo r (decode r)
-  unfolding answerTo
-  answer-found c n t l e d = rw (decode-found r h c (tested-word c l t) (omega arith)) (ap (repairedTo c) e)
+  pub answer-found : (c : List Bool) (n : ℕ) → is_code_word c ≡ true → length c ≡ 187 → n ≡ dist r c → n ≤ 8 → repaired_to c n ≡ answer_to r (decode r)
+  unfolding answer_to
+  answer-found c n t l e d = rw (decode-found r h c (tested-word c l t) (omega arith)) (ap (repaired_to c) e)
 
   -- a word that is no code word, or differs in more than eight places, is not what the majority gives within eight
-  pub answer-none : (w : List Bool) → w ≡ flipped r r → (isCodeWord w ≡ true → dist r w ≤ 8 → ⊥) → refusedWith 4 ≡ answerTo r (decode r)
-  unfolding answerTo
+  pub answer-none : (w : List Bool) → w ≡ flipped r r → (is_code_word w ≡ true → dist r w ≤ 8 → ⊥) → refused_with 4 ≡ answer_to r (decode r)
+  unfolding answer_to
   answer-none w e n = rw (flipped-none r h (λ k d. n (word-tested w (subst CodeWord (sym e) k)) (subst (λ u. dist r u ≤ 8) (sym e) d)))

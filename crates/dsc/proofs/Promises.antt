@@ -12,9 +12,9 @@ use Rattle.bits.specs.Bits.{digit}
 use Rattle.gf2.specs.Polynomial.{zeros, member, poly, add}
 use Rattle.gf2.proofs.Sum.{length-add, add-to-zeros}
 use Rattle.dsc.specs.Code.{powers, CodeWord, weight, dist}
-use Rattle.dsc.specs.Repair.{protected, word_bytes, decode, repairedTo, answerTo, number_of, repairOf}
-use Rattle.dsc.specs.Worked.{generatorWord, among, firstPlaces}
-use Rattle.dsc.specs.Promises.{NoneWithinEight, Demand3, HitWord, firstTen, BeyondEight, CodeLaws}
+use Rattle.dsc.specs.Repair.{protected, word_bytes, decode, repaired_to, answer_to, number_of, repair_of}
+use Rattle.dsc.specs.Worked.{generator_word, among, first_places}
+use Rattle.dsc.specs.Promises.{NoneWithinEight, Demand3, HitWord, first_ten, BeyondEight, CodeLaws}
 use Rattle.dsc.proofs.Word.{length-word, parity-word, parity-only}
 use Rattle.dsc.proofs.CheckRows.{word_even}
 use Rattle.dsc.proofs.TableRows.{table-row}
@@ -22,15 +22,15 @@ use Rattle.dsc.proofs.Incidence.{on-seventeen, share-one}
 use Rattle.dsc.proofs.EvenRows.{even-word}
 use Rattle.dsc.proofs.Distance.{dist-hit, dist_same, distance18, only_one}
 use Rattle.dsc.proofs.Encoding.{encoded-word, encoded-message, encoded-only}
-use Rattle.dsc.proofs.Answers.{length-wordBytes, protected-wordBytes, repair-short, repair-decoded, repair-found, repair-none, repairs, repairs-only}
+use Rattle.dsc.proofs.Answers.{length-word_bytes, protected-word_bytes, repair-short, repair-decoded, repair-found, repair-none, repairs, repairs-only}
 use Rattle.dsc.proofs.BeyondEight.{held, refused-or-wrong, counted, only-refused, zero-hit, ten-refused}
 use Rattle.dsc.proofs.Worked.{worked}
 
 gives-sent-word : (f : List ℕ) (c e : List Bool) → length f ≡ 26 → CodeWord c → length e ≡ 187 → weight e ≤ 8
-    → protected f ≡ add e c → repairOf f ≡ repairedTo c (weight e)
+    → protected f ≡ add e c → repair_of f ≡ repaired_to c (weight e)
 gives-sent-word f c e h k l w p =
     let d : dist (protected f) c ≡ weight e = ap (λ r. dist r c) p ∙ dist-hit e c (l ∙ sym (length-word c k)) in
-    repair-found f h c k (omega arith) ∙ ap (repairedTo c) d
+    repair-found f h c k (omega arith) ∙ ap (repaired_to c) d
 
 never-alike : (c d e h : List Bool) → CodeWord c → CodeWord d → c ≢ d → length e ≡ 187 → length h ≡ 187 → weight e ≤ 8 → weight h ≤ 8
     → add e c ≢ add h d
@@ -42,10 +42,10 @@ never-alike c d e h kc kd ne le lh we wh same =
     length-sum : (e c : List Bool) → CodeWord c → length (add e c) ≡ 187
     length-sum e c k = length-add e c ∙ length-word c k
 
-short-if-refused : (f : List ℕ) → number_of (repairOf f) ≡ 1 → length f ≢ 26
+short-if-refused : (f : List ℕ) → number_of (repair_of f) ≡ 1 → length f ≢ 26
 short-if-refused f e h = (repairs f).long h e
 
-none-if-refused : (f : List ℕ) → number_of (repairOf f) ≡ 4 → (length f ≡ 26) × NoneWithinEight (protected f)
+none-if-refused : (f : List ℕ) → number_of (repair_of f) ≡ 4 → (length f ≡ 26) × NoneWithinEight (protected f)
 none-if-refused f e = go (eqb (length f) 26) refl
   where
     go : (t : Bool) → eqb (length f) 26 ≡ t → (length f ≡ 26) × NoneWithinEight (protected f)
@@ -54,10 +54,10 @@ none-if-refused f e = go (eqb (length f) 26) refl
         (h, λ c k d. let z : ◌≡◌ {A = ℕ} 0 4 = sym (ap number_of (repair-found f h c k d)) ∙ e in omega arith)
     go false q = let z : ◌≡◌ {A = ℕ} 1 4 = sym (ap number_of (repair-short f (eqb-false (length f) 26 q))) ∙ e in absurd (omega arith)
 
-repaired-is-clean : (c : List Bool) → CodeWord c → repairOf (word_bytes c) ≡ repairedTo c 0
+repaired-is-clean : (c : List Bool) → CodeWord c → repair_of (word_bytes c) ≡ repaired_to c 0
 repaired-is-clean c k =
-    let d : dist (protected (word_bytes c)) c ≡ 0 = ap (λ r. dist r c) (protected-wordBytes c (length-word c k)) ∙ dist_same c in
-    repair-found (word_bytes c) (length-wordBytes c) c k (omega arith) ∙ ap (repairedTo c) d
+    let d : dist (protected (word_bytes c)) c ≡ 0 = ap (λ r. dist r c) (protected-word_bytes c (length-word c k)) ∙ dist_same c in
+    repair-found (word_bytes c) (length-word_bytes c) c k (omega arith) ∙ ap (repaired_to c) d
 
 pub demand3 : Demand3
 demand3 =
@@ -71,33 +71,33 @@ demand3 =
       none-if-refused = none-if-refused;
       short-if-refused = short-if-refused;
       looks-only = λ f g hf hg e.
-          repair-decoded f hf (decode (protected f)) refl ∙ ap (λ r. answerTo r (decode r)) e ∙ sym (repair-decoded g hg (decode (protected g)) refl);
+          repair-decoded f hf (decode (protected f)) refl ∙ ap (λ r. answer_to r (decode r)) e ∙ sym (repair-decoded g hg (decode (protected g)) refl);
       repaired-is-clean = repaired-is-clean;
     }
 
-ten-wrong : (f : List ℕ) (e : List Bool) → HitWord 10 (zeros 187) e f → among e generatorWord ≡ true → repairOf f ≡ repairedTo generatorWord 8
+ten-wrong : (f : List ℕ) (e : List Bool) → HitWord 10 (zeros 187) e f → among e generator_word ≡ true → repair_of f ≡ repaired_to generator_word 8
 ten-wrong f e h a =
     let r : protected f ≡ e = zero-hit h in
-    worked.example5 f (record { size = h.size; places = ap (λ w. among w generatorWord) r ∙ a; number = ap weight r ∙ h.number })
+    worked.example5 f (record { size = h.size; places = ap (λ w. among w generator_word) r ∙ a; number = ap weight r ∙ h.number })
 
 -- the zero word, hit in the places of e
 zero_held : (n : ℕ) (e : List Bool) → length e ≡ 187 → weight e ≡ n → HitWord n (zeros 187) e (word_bytes e)
 zero_held n e l w =
     record {
-      size = length-wordBytes e;
+      size = length-word_bytes e;
       sent = worked.example1;
       places = l;
       number = w;
-      received = protected-wordBytes e l ∙ sym (ap (λ n. add e (zeros n)) (sym l) ∙ add-to-zeros e);
+      received = protected-word_bytes e l ∙ sym (ap (λ n. add e (zeros n)) (sym l) ∙ add-to-zeros e);
     }
 
-ten-wrong-some : HitWord 10 (zeros 187) (firstPlaces 10) (word_bytes (firstPlaces 10)) × (among (firstPlaces 10) generatorWord ≡ true)
-unfolding firstPlaces generatorWord powers poly member among digit
-ten-wrong-some = (zero_held 10 (firstPlaces 10) refl refl, refl)
+ten-wrong-some : HitWord 10 (zeros 187) (first_places 10) (word_bytes (first_places 10)) × (among (first_places 10) generator_word ≡ true)
+unfolding first_places generator_word powers poly member among digit
+ten-wrong-some = (zero_held 10 (first_places 10) refl refl, refl)
 
-ten-refused-some : HitWord 10 (zeros 187) firstTen (word_bytes firstTen)
-unfolding firstTen digit
-ten-refused-some = zero_held 10 firstTen refl refl
+ten-refused-some : HitWord 10 (zeros 187) first_ten (word_bytes first_ten)
+unfolding first_ten digit
+ten-refused-some = zero_held 10 first_ten refl refl
 
 pub beyond-eight : BeyondEight
 beyond-eight =

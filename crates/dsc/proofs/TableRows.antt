@@ -12,10 +12,10 @@ use Rattle.dsc.proofs.CheckRows.{differences-below}
 
 -- ---- rows by index
 
-get_d_map : (h : ℕ → ℕ) (xs : List ℕ) (i : ℕ) → i < length xs → get_or (map h xs) i 0 ≡ h (get_or xs i 0)
-get_d_map h [] i l = absurd (omega arith)
-get_d_map h (x ∷ xs) zero l = refl
-get_d_map h (x ∷ xs) (suc i) l = get_d_map h xs i (omega arith)
+get_or-map : (h : ℕ → ℕ) (xs : List ℕ) (i : ℕ) → i < length xs → get_or (map h xs) i 0 ≡ h (get_or xs i 0)
+get_or-map h [] i l = absurd (omega arith)
+get_or-map h (x ∷ xs) zero l = refl
+get_or-map h (x ∷ xs) (suc i) l = get_or-map h xs i (omega arith)
 
 pub length-differences : length differences ≡ 17
 unfolding differences
@@ -25,13 +25,13 @@ pub length-row : (s : ℕ) → length (row s) ≡ 17
 length-row s = length-map differences (λ d. (s + 273 - d) % 273) ∙ length-differences
 
 pub row-at : (s i : ℕ) → i < 17 → get_or (row s) i 0 ≡ (s + 273 - get_or differences i 0) % 273
-row-at s i h = get_d_map (λ d. (s + 273 - d) % 273) differences i (omega (arith, length-differences))
+row-at s i h = get_or-map (λ d. (s + 273 - d) % 273) differences i (omega (arith, length-differences))
 
 pub length-rows : (p : ℕ) → length (rows_of p) ≡ 17
 length-rows p = length-map differences (λ d. (p + d) % 273) ∙ length-differences
 
 pub rows_at : (p i : ℕ) → i < 17 → get_or (rows_of p) i 0 ≡ (p + get_or differences i 0) % 273
-rows_at p i h = get_d_map (λ d. (p + d) % 273) differences i (omega (arith, length-differences))
+rows_at p i h = get_or-map (λ d. (p + d) % 273) differences i (omega (arith, length-differences))
 
 -- ---- the table's rows
 
@@ -39,11 +39,11 @@ module _ (t : List ℕ) (k : CheckTable t) (s : ℕ) (hs : s < 273) where
   row-place : (i : ℕ) → i < 17 → get_or (row_at t s) i 0 ≡ get_or (row s) i 0
   row-place i h = get_or-take 17 (drop (s * 17) t) i 0 h ∙ get_or-drop (s * 17) t i 0 ∙ k.rule s i hs h ∙ sym (row-at s i h)
 
-  length-rowAt : length (row_at t s) ≡ 17
-  length-rowAt = length-take-le 17 (drop (s * 17) t) (omega (arith, length-drop (s * 17) t, k.size))
+  length-row_at : length (row_at t s) ≡ 17
+  length-row_at = length-take-le 17 (drop (s * 17) t) (omega (arith, length-drop (s * 17) t, k.size))
 
   pub table-row : row_at t s ≡ row s
-  table-row = ext_get_or 0 (row_at t s) (row s) (length-rowAt ∙ sym (length-row s)) (λ i h. row-place i (omega (arith, length-rowAt)))
+  table-row = ext_get_or 0 (row_at t s) (row s) (length-row_at ∙ sym (length-row s)) (λ i h. row-place i (omega (arith, length-row_at)))
 
 -- row s is row 0 moved on by s
 pub row_moved : (s : ℕ) → s < 273 → row s ≡ map (λ q. (q + s) % 273) (row 0)

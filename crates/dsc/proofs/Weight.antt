@@ -27,17 +27,17 @@ ones-digit zero h = refl
 ones-digit (suc zero) h = refl
 ones-digit (suc (suc x)) h = absurd (omega arith)
 
-pub weight-bitsOf : (k v : ℕ) → weight (bits_of k v) ≡ ones (v % 2 ^ k)
+pub weight-bits_of : (k v : ℕ) → weight (bits_of k v) ≡ ones (v % 2 ^ k)
 unfolding bits_of
-weight-bitsOf zero v = sym (ap ones (mod-one v) ∙ ones-digit 0 (omega arith))
-weight-bitsOf (suc k) v =
+weight-bits_of zero v = sym (ap ones (mod-one v) ∙ ones-digit 0 (omega arith))
+weight-bits_of (suc k) v =
     let first : digit (odd (v / 2 ^ k)) ≡ ones (v / 2 ^ k % 2) =
     digit-odd (v / 2 ^ k) ∙ sym (ones-digit (v / 2 ^ k % 2) (omega arith)) in
-    ap₂ ◌+◌ first (weight-bitsOf k v)
+    ap₂ ◌+◌ first (weight-bits_of k v)
     ∙ sym
     (ap (λ n. ones (v % 2 ^ n)) (let e : suc k ≡ 1 + k = omega arith in e)
     ∙ ap ones (mod-pow-add v 1 k)
     ∙ ones_cat k (v / 2 ^ k % 2) (v % 2 ^ k) (mod-lt v (pow_pos k)))
 
 pub weight-whole : (k v : ℕ) → v < 2 ^ k → weight (bits_of k v) ≡ ones v
-weight-whole k v h = weight-bitsOf k v ∙ ap ones (mod-eq_of_lt h)
+weight-whole k v h = weight-bits_of k v ∙ ap ones (mod-eq_of_lt h)

@@ -32,13 +32,13 @@ abbrev pub coefficient : List Bool → ℕ → Bool
 coefficient [] p = false
 coefficient (b ∷ w) p = cond (eqb p (length w)) b (coefficient w p)
 
-abbrev pub sumOver : (ℕ → Bool) → List ℕ → Bool
-sumOver f [] = false
-sumOver f (p ∷ ps) = f p ⊕ sumOver f ps
+abbrev pub sum_over : (ℕ → Bool) → List ℕ → Bool
+sum_over f [] = false
+sum_over f (p ∷ ps) = f p ⊕ sum_over f ps
 
 -- the sum of w on row s: the row fails where it is odd
 abbrev pub syndrome : List Bool → ℕ → Bool
-syndrome w s = sumOver (coefficient w) (row s)
+syndrome w s = sum_over (coefficient w) (row s)
 
 -- n - 1 down to 0
 abbrev pub upto : ℕ → List ℕ

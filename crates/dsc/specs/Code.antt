@@ -3,22 +3,22 @@
 -- Assumes nothing.
 use Rattle.std.specs.Prelude.{◌≡◌, Bool, true, not, ◌&&◌, List, [], ◌∷◌, ℕ, ◌+◌, length}
 use Rattle.bits.specs.Bits.{digit}
-use Rattle.gf2.specs.Polynomial.{add, mul, poly, remainder, checkBits}
+use Rattle.gf2.specs.Polynomial.{add, mul, poly, remainder, check_bits}
 
 -- the powers of x in the generator
 unfoldable pub powers : List ℕ
 powers = 82 ∷ 77 ∷ 76 ∷ 71 ∷ 67 ∷ 66 ∷ 56 ∷ 52 ∷ 48 ∷ 40 ∷ 36 ∷ 34 ∷ 24 ∷ 22 ∷ 18 ∷ 10 ∷ 4 ∷ 0 ∷ []
 
 -- the 82 coefficients of the generator below its leading term x^82
-unfoldable pub generatorLow : List Bool
+unfoldable pub generator_low : List Bool
 unfolding powers
-generatorLow = poly 82 powers
+generator_low = poly 82 powers
 
 -- a code word: a multiple of the generator, of degree at most 186
 pub record CodeWord (w : List Bool) : Type 0 where
   pub multiplier : List Bool
   pub size : length multiplier ≡ 105
-  pub multiple : w ≡ mul generatorLow multiplier
+  pub multiple : w ≡ mul generator_low multiplier
 
 -- ---- counting
 
@@ -37,14 +37,14 @@ dist u w = weight (add u w)
 
 -- ---- a test and the encoder, by division
 
-unfoldable pub allZero : List Bool → Bool
-allZero [] = true
-allZero (b ∷ w) = not b && allZero w
+unfoldable pub all_zero : List Bool → Bool
+all_zero [] = true
+all_zero (b ∷ w) = not b && all_zero w
 
 -- nothing remains when the 187 bits are divided by the generator
-unfoldable pub isCodeWord : List Bool → Bool
-isCodeWord w = allZero (remainder generatorLow 105 w)
+unfoldable pub is_code_word : List Bool → Bool
+is_code_word w = all_zero (remainder generator_low 105 w)
 
 -- the parity of a message of 105 bits, B122 to B203: what remains of the message times x^82
-unfoldable pub parityOf : List Bool → List Bool
-parityOf m = checkBits generatorLow m
+unfoldable pub parity_of : List Bool → List Bool
+parity_of m = check_bits generator_low m

@@ -14,7 +14,7 @@ use Rattle.gf2.specs.Polynomial.{◌⊕◌, add}
 use Rattle.gf2.proofs.Sum.{xor-false, xor_assoc}
 use Rattle.bits.specs.Bits.{digit}
 use Rattle.dsc.specs.Code.{count, dist}
-use Rattle.dsc.specs.CheckTable.{sumOver}
+use Rattle.dsc.specs.CheckTable.{sum_over}
 
 -- `a != b`
 pub ne-xor : (a b : Bool) → not (beq a b) ≡ a ⊕ b
@@ -29,16 +29,16 @@ pub next : {A : Type 0} (xs : List A) (i : ℕ) (d : A) → i < length xs → dr
 next xs i d h = drop-cons xs i d h ∙ ap (λ n. get_or xs i d ∷ drop n xs) (sym (add-one i))
 
 module _ (f : ℕ → Bool) (xs : List ℕ) (i : ℕ) where
-  pub sum-next : (sum x total : Bool) → i < length xs → x ≡ f (get_or xs i 0) → sum ⊕ sumOver f (drop i xs) ≡ total
-      → not (beq sum x) ⊕ sumOver f (drop (i + 1) xs) ≡ total
+  pub sum-next : (sum x total : Bool) → i < length xs → x ≡ f (get_or xs i 0) → sum ⊕ sum_over f (drop i xs) ≡ total
+      → not (beq sum x) ⊕ sum_over f (drop (i + 1) xs) ≡ total
   sum-next sum x total h e inv =
-      ap (◌⊕ sumOver f (drop (i + 1) xs)) (ne-xor sum x ∙ ap (sum ⊕◌) e)
-      ∙ xor_assoc sum (f (get_or xs i 0)) (sumOver f (drop (i + 1) xs))
-      ∙ sym (ap (λ l. sum ⊕ sumOver f l) (next xs i 0 h))
+      ap (◌⊕ sum_over f (drop (i + 1) xs)) (ne-xor sum x ∙ ap (sum ⊕◌) e)
+      ∙ xor_assoc sum (f (get_or xs i 0)) (sum_over f (drop (i + 1) xs))
+      ∙ sym (ap (λ l. sum ⊕ sum_over f l) (next xs i 0 h))
       ∙ inv
 
-  pub sum_done : (sum total : Bool) → length xs ≤ i → sum ⊕ sumOver f (drop i xs) ≡ total → sum ≡ total
-  sum_done sum total h inv = sym (ap (λ l. sum ⊕ sumOver f l) (drop_of_length-le xs h) ∙ xor-false sum) ∙ inv
+  pub sum_done : (sum total : Bool) → length xs ≤ i → sum ⊕ sum_over f (drop i xs) ≡ total → sum ≡ total
+  sum_done sum total h inv = sym (ap (λ l. sum ⊕ sum_over f l) (drop_of_length-le xs h) ∙ xor-false sum) ∙ inv
 
   pub count_next : (n x total : ℕ) → i < length xs → x ≡ digit (f (get_or xs i 0)) → n + count f (drop i xs) ≡ total → n + x + count f (drop (i + 1) xs) ≡ total
   count_next n x total h e inv = omega (arith, ap (count f) (next xs i 0 h))

@@ -2,7 +2,7 @@
 // have tested the frame's length before, so sizes are required and nothing is tested.
 ghost use Rattle.std.specs.Prelude.{◌≡◌, ◌*◌, ◌<◌, ◌≤◌, length, take, drop};
 ghost use Rattle.bits.specs.Bits.{value, bits, digit};
-ghost use Rattle.dsc.specs.Repair.{protected, word_bytes, refusedWith, repairedTo};
+ghost use Rattle.dsc.specs.Repair.{protected, word_bytes, refused_with, repaired_to};
 ghost use Rattle.dsc_bits.specs.Words.{at};
 ghost use Rattle.dsc_bytes.specs.Padded.{padded};
 
@@ -68,7 +68,7 @@ pub fn word_bytes(w: &[bool]) -> [u8; 26]
 
 // A refusal, with no word.
 pub fn refused(number: u8) -> Answer
-    ensures { result ≡ refusedWith number }
+    ensures { result ≡ refused_with number }
 {
     Answer {
         outcome: Outcome::Refused(number),
@@ -79,7 +79,7 @@ pub fn refused(number: u8) -> Answer
 // A repaired word, and in how many places it differs.
 pub fn repaired(word: &[bool], places: u8) -> Answer
     requires { length word.now ≡ 187 }
-    ensures { result ≡ repairedTo word.now places }
+    ensures { result ≡ repaired_to word.now places }
 {
     let word = word_bytes(word);
     Answer {

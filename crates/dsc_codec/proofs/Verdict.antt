@@ -12,10 +12,10 @@ use borrow.Author.Tests.{ltb-true, ltb-false}
 use Rattle.gf2.specs.Polynomial.{◌⊕◌, add}
 use Rattle.gf2.proofs.Sum.{length-add, add-self}
 use Rattle.lanes.proofs.Lanes.{lane_xor, none_left, none_right, none_both}
-use Rattle.dsc.specs.Code.{weight, isCodeWord}
+use Rattle.dsc.specs.Code.{weight, is_code_word}
 use Rattle.dsc.specs.CheckTable.{syndrome}
 use Rattle.dsc.specs.Majority.{flipped}
-use Rattle.dsc.specs.Repair.{protected, repairedTo, refusedWith, answerTo, decode, repairOf}
+use Rattle.dsc.specs.Repair.{protected, repaired_to, refused_with, answer_to, decode, repair_of}
 use Rattle.dsc.specs.declared.Answer.{Answer}
 use Rattle.dsc.proofs.Answers.{repair-decoded}
 use Rattle.dsc.proofs.Word.{word-tested, tested-word}
@@ -42,7 +42,7 @@ sums-add {u} {w} {s} {n} {x} {y} l ex ey =
 -- ---- rows 128 to 255 tell a code word
 
 module _ (w : List Bool) (l : length w ≡ 187) {x y : ℕ} (sx : Sums w 128 64 x) (sy : Sums w 192 64 y) where
-  pub even-tested : bit_or x y ≡ 0 → isCodeWord w ≡ true
+  pub even-tested : bit_or x y ≡ 0 → is_code_word w ≡ true
   even-tested e = word-tested w (neighbours-word w l 128 (omega arith) (λ j h. go j h (ltb j 64) refl))
     where
       go : (j : ℕ) → j < 82 → (t : Bool) → ltb j 64 ≡ t → syndrome w ((128 + j) % 273) ≡ false
@@ -53,13 +53,13 @@ module _ (w : List Bool) (l : length w ≡ 187) {x y : ℕ} (sx : Sums w 128 64 
           let m = ltb-false j 64 q in
           ap (syndrome w) (let z : (128 + j) % 273 ≡ 192 + (j - 64) = omega arith in z) ∙ sym (sy.each (j - 64) (omega arith)) ∙ none_right x y e (j - 64)
 
-  pub tested-even : x < 2 ^ 64 → y < 2 ^ 64 → isCodeWord w ≡ true → bit_or x y ≡ 0
+  pub tested-even : x < 2 ^ 64 → y < 2 ^ 64 → is_code_word w ≡ true → bit_or x y ≡ 0
   tested-even fx fy t =
       let k = tested-word w l t in
       none_both x y fx fy (λ i h. sx.each i h ∙ word_even w k (128 + i) (omega arith)) (λ i h. sy.each i h ∙ word_even w k (192 + i) (omega arith))
 
   -- a word that needs no repair
-  pub clean : bit_or x y ≡ 0 → repairedTo w 0 ≡ answerTo w (decode w)
+  pub clean : bit_or x y ≡ 0 → repaired_to w 0 ≡ answer_to w (decode w)
   clean e = answer-found w l w 0 (even-tested e) l (sym (dist_same w)) (omega arith)
 
 -- ---- the errors of the received word r, from its sums
@@ -83,7 +83,7 @@ module _ {r : List Bool} {a b c d f : ℕ} (lr : length r ≡ 187) (middle : Sum
           },
         )
 
-    pub too_far : x ≡ pattern.Many → refusedWith 4 ≡ answerTo r (decode r)
+    pub too_far : x ≡ pattern.Many → refused_with 4 ≡ answer_to r (decode r)
     too_far q =
         let k = subst (ErrorsFrom a b c d f) q m in
         answer-none r lr (flipped r r) refl (λ t d. omega (arith, k.each r lr all-sums))
@@ -100,20 +100,20 @@ module _ {r e : List Bool} {c d n g h : ℕ} (lr : length r ≡ 187) (le : lengt
   left192 : Sums (add r e) 192 64 (bit_xor d h)
   left192 = sums-add (lr ∙ sym le) m.rows192 theirs.1
 
-  pub no_word : bit_xor c g < 2 ^ 64 → bit_xor d h < 2 ^ 64 → bit_or (bit_xor c g) (bit_xor d h) ≢ 0 → refusedWith 4 ≡ answerTo r (decode r)
+  pub no_word : bit_xor c g < 2 ^ 64 → bit_xor d h < 2 ^ 64 → bit_or (bit_xor c g) (bit_xor d h) ≢ 0 → refused_with 4 ≡ answer_to r (decode r)
   no_word fx fy ne = answer-none r lr (add r e) (sym m.flips) (λ t d. ne (tested-even (add r e) length-mended left128 left192 fx fy t))
 
-  pub mended : bit_or (bit_xor c g) (bit_xor d h) ≡ 0 → repairedTo (add r e) n ≡ answerTo r (decode r)
+  pub mended : bit_or (bit_xor c g) (bit_xor d h) ≡ 0 → repaired_to (add r e) n ≡ answer_to r (decode r)
   mended z =
       answer-found r lr (add r e) n (even-tested (add r e) length-mended left128 left192 z) length-mended (m.places ∙ sym (ap weight (add-self r e))) m.few
 
 -- ---- the answer by what was found
 
-pub near : (r : List Bool) (x : Found) {w : Word} {n : ℕ} → Finds r x → x ≡ found.Near w n → Fits w × (repairedTo (held w) n ≡ answerTo r (decode r))
+pub near : (r : List Bool) (x : Found) {w : Word} {n : ℕ} → Finds r x → x ≡ found.Near w n → Fits w × (repaired_to (held w) n ≡ answer_to r (decode r))
 near r x f e = subst (Finds r) e f
 
-pub far-off : (r : List Bool) (x : Found) → Finds r x → x ≡ found.Far → refusedWith 4 ≡ answerTo r (decode r)
+pub far-off : (r : List Bool) (x : Found) → Finds r x → x ≡ found.Far → refused_with 4 ≡ answer_to r (decode r)
 far-off r x f e = subst (Finds r) e f
 
-pub answered : (f : List ℕ) {r : List Bool} {a : Answer} → length f ≡ 26 → r ≡ protected f → a ≡ answerTo r (decode r) → a ≡ repairOf f
-answered f l e q = q ∙ ap (λ r. answerTo r (decode r)) e ∙ sym (repair-decoded f l (decode (protected f)) refl)
+pub answered : (f : List ℕ) {r : List Bool} {a : Answer} → length f ≡ 26 → r ≡ protected f → a ≡ answer_to r (decode r) → a ≡ repair_of f
+answered f l e q = q ∙ ap (λ r. answer_to r (decode r)) e ∙ sym (repair-decoded f l (decode (protected f)) refl)

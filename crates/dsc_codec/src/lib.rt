@@ -1,7 +1,7 @@
 // The repair of the protected part, 64 check rows at a time, and its encoder.
 ghost use Rattle.std.specs.Prelude.{◌≡◌, length};
-ghost use Rattle.dsc.specs.Encoding.{encodeOf};
-ghost use Rattle.dsc.specs.Repair.{repairedTo, repairOf, leftIn, Repairs};
+ghost use Rattle.dsc.specs.Encoding.{encode_of};
+ghost use Rattle.dsc.specs.Repair.{repaired_to, repair_of, left_in, Repairs};
 ghost use Rattle.dsc_words.specs.Words.{held, Fits};
 ghost use Rattle.dsc_codec.specs.Engine.{Finds, Located};
 
@@ -50,7 +50,7 @@ pub fn find(received: Word) -> Found
 // A repaired word, and in how many places it differs.
 fn repaired(w: Word, places: u8) -> Answer
     requires { Fits w }
-    ensures { result ≡ repairedTo (held w) places }
+    ensures { result ≡ repaired_to (held w) places }
 {
     let word = dsc_words::word_bytes(w);
     Answer {
@@ -61,7 +61,7 @@ fn repaired(w: Word, places: u8) -> Answer
 
 // The repair asked for alone: of any bytes, it looks only at B17 to B203, and refuses 1, then 4.
 pub fn repair(frame: &[u8]) -> Answer
-    ensures { Repairs frame.now result × (result ≡ repairOf frame.now) }
+    ensures { Repairs frame.now result × (result ≡ repair_of frame.now) }
 {
     if frame.len() != 26 {
         return dsc_bytes::refused(1);
@@ -78,8 +78,8 @@ pub fn repair(frame: &[u8]) -> Answer
 // buffer's length.
 pub fn repair_into(frame: &[u8], word: &mut [u8]) -> Outcome
     requires { length word.old ≡ 26 }
-    ensures value { result ≡ (repairOf frame.now).outcome }
-    ensures word_after { word.new ≡ leftIn (repairOf frame.now) word.old }
+    ensures value { result ≡ (repair_of frame.now).outcome }
+    ensures word_after { word.new ≡ left_in (repair_of frame.now) word.old }
 {
     if frame.len() != 26 {
         return Outcome::Refused(1);
@@ -97,7 +97,7 @@ pub fn repair_into(frame: &[u8], word: &mut [u8]) -> Outcome
 
 // The parity of B17 to B121, written to B122 to B203; all else stays, and bytes that are no frame stay whole.
 pub fn encode(frame: &mut [u8])
-    ensures { frame.new ≡ encodeOf frame.old }
+    ensures { frame.new ≡ encode_of frame.old }
 {
     if frame.len() != 26 {
         return;

@@ -1,7 +1,7 @@
 // The encoder: the parity of a message, by long division. Only `dsc_codec` calls it, always with a word of 187 bits, which it therefore requires.
 ghost use Rattle.std.specs.Prelude.{◌≡◌, ◌++◌, ◌+◌, ◌<◌, ◌≤◌, length, take, drop};
 ghost use Rattle.gf2.specs.Polynomial.{zeros, add, remainder};
-ghost use Rattle.dsc.specs.Code.{parityOf};
+ghost use Rattle.dsc.specs.Code.{parity_of};
 ghost use Rattle.dsc_bits.specs.Words.{at};
 
 // g, added at the front of v.
@@ -62,7 +62,7 @@ fn last(w: &[bool]) -> [bool; 82]
 // The parity of the message of a word: what remains of it, times x^82, on division by the generator.
 pub fn parity(w: &[bool]) -> [bool; 82]
     requires { length w.now ≡ 187 }
-    ensures { result ≡ parityOf (take 105 w.now) }
+    ensures { result ≡ parity_of (take 105 w.now) }
 {
     let g = dsc_tables::generator::low();
     let mut d = shifted(w);

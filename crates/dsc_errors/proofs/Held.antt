@@ -9,17 +9,17 @@ use lib.ListN.{get_or}
 use borrow.Author.Tests.{ltb-true, ltb-false}
 use Rattle.bits.specs.Bits.{digit}
 use Rattle.bits.proofs.Computed.{all_below}
-use Rattle.lanes.specs.Lane.{lane, bit_at, setIn}
+use Rattle.lanes.specs.Lane.{lane, bit_at, set_in}
 use Rattle.lanes.proofs.Windows.{Fit, window, lane-window}
 use Rattle.dsc.specs.Code.{count}
 use Rattle.dsc.specs.CheckTable.{differences, rows_of}
 use Rattle.dsc.proofs.CheckRows.{count_map, count_same}
-use Rattle.dsc_errors.specs.Errors.{movedOn, Wrapped, MovedMajority}
+use Rattle.dsc_errors.specs.Errors.{moved_on, Wrapped, MovedMajority}
 
 -- ---- a count of windows, in the shape that the code has
 
 module _ (ws : List ℕ) (fit : Fit ws) (i : ℕ) (h : i < 64) where
-  pub set-windows : (ps : List ℕ) → setIn i (map (window ws) ps) ≡ count (movedOn ws i) ps
+  pub set-windows : (ps : List ℕ) → set_in i (map (window ws) ps) ≡ count (moved_on ws i) ps
   set-windows [] = refl
   set-windows (p ∷ ps) = ap₂ ◌+◌ (ap digit (lane-window ws fit i h p)) (set-windows ps)
 
@@ -114,6 +114,6 @@ pub majority-held : (f : ℕ → Bool) (n x : ℕ) {ws : List ℕ} → Held f n 
 majority-held f n x {ws} e s i h =
     s.each i h
     ∙ ap (leb 9)
-    (count_same 202 (movedOn ws i) (λ d. f ((n + i + d) % 273)) differences set_below
+    (count_same 202 (moved_on ws i) (λ d. f ((n + i + d) % 273)) differences set_below
     (λ d hd. e.each (i + d) (omega arith) ∙ ap (λ k. f (k % 273)) (let q : n + (i + d) ≡ n + i + d = omega arith in q))
     ∙ sym (count_map f (λ d. (n + i + d) % 273) differences))

@@ -16,12 +16,12 @@ pub record Wrapped (x y z : ℕ) : Type 0 where
   pub each : (i : ℕ) → i < 64 → lane z i ≡ bit_at (x ∷ y ∷ []) (i + 47)
 
 -- the bits of a row of machine words, moved on by i
-abbrev pub movedOn : List ℕ → ℕ → ℕ → Bool
-movedOn ws i p = bit_at ws (i + p)
+abbrev pub moved_on : List ℕ → ℕ → ℕ → Bool
+moved_on ws i p = bit_at ws (i + p)
 
 -- lane i of x says that nine or more of the bits at the differences, moved on by i, are set
 pub record MovedMajority (ws : List ℕ) (x : ℕ) : Type 0 where
-  pub each : (i : ℕ) → i < 64 → lane x i ≡ leb 9 (count (movedOn ws i) differences)
+  pub each : (i : ℕ) → i < 64 → lane x i ≡ leb 9 (count (moved_on ws i) differences)
 
 -- the word `errors` has 1 at each place, and only there, of which nine or more rows fail in the word that has these sums
 pub record ErrorsOf (a b c d e : ℕ) (errors : List Bool) : Type 0 where

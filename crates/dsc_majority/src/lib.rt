@@ -2,9 +2,9 @@
 // the check table and a state of 82 cells, which they therefore require; `dsc_register` calls the last.
 ghost use Rattle.std.specs.Prelude.{◌≡◌, ◌+◌, ◌-◌, ◌%◌, ◌<◌, leb, length, get_or};
 ghost use Rattle.gf2.specs.Polynomial.{◌⊕◌};
-ghost use Rattle.dsc.specs.Code.{generatorLow};
+ghost use Rattle.dsc.specs.Code.{generator_low};
 ghost use Rattle.dsc.specs.CheckTable.{CheckTable, differences, coefficient, syndrome, failures};
-ghost use Rattle.dsc_shift_register.specs.Register.{decidedPlace, decided, registerWord};
+ghost use Rattle.dsc_shift_register.specs.Register.{decided_place, decided, register_word};
 
 // When the whole word has gone into the register, the state is that of the word times x^82, so its first bit, x^186, stands here.
 const DECIDED_PLACE: usize = 268;
@@ -49,7 +49,7 @@ fn check_sum(t: &[u16], s: &[bool], q: usize) -> bool
 // How many of the 17 check sums through the decided place are odd.
 fn failure_count(t: &[u16], s: &[bool]) -> u8
     requires { CheckTable t.now × (length s.now ≡ 82) }
-    ensures { result ≡ failures s.now decidedPlace }
+    ensures { result ≡ failures s.now decided_place }
 {
     let mut n = 0;
     for i in 0..17 {
@@ -61,14 +61,14 @@ fn failure_count(t: &[u16], s: &[bool]) -> u8
 // The bit b of the decided place, flipped where the majority is odd.
 fn decide(t: &[u16], s: &[bool], b: bool) -> bool
     requires { CheckTable t.now × (length s.now ≡ 82) }
-    ensures { result ≡ b ⊕ leb 9 (failures s.now decidedPlace) }
+    ensures { result ≡ b ⊕ leb 9 (failures s.now decided_place) }
 {
     b != (9 <= failure_count(t, s))
 }
 
 // The bits of r, decided one after the other. After each the register turns, with no bit going in: that brings the next bit to the decided place.
 fn decide_bits(g: &[bool], t: &[u16], s: &mut [bool; 82], r: &[bool]) -> [bool; 187]
-    requires { (g.now ≡ generatorLow) × CheckTable t.now × (length s.old ≡ 82) × (length r.now ≡ 187) }
+    requires { (g.now ≡ generator_low) × CheckTable t.now × (length s.old ≡ 82) × (length r.now ≡ 187) }
     ensures { result ≡ decided s.old r.now }
 {
     let mut w = dsc_bits::clear();
@@ -81,8 +81,8 @@ fn decide_bits(g: &[bool], t: &[u16], s: &mut [bool; 82], r: &[bool]) -> [bool; 
 
 // The word that the majority gives for the received bits r.
 pub fn decide_word(g: &[bool], t: &[u16], r: &[bool]) -> [bool; 187]
-    requires { (g.now ≡ generatorLow) × CheckTable t.now × (length r.now ≡ 187) }
-    ensures { result ≡ registerWord r.now }
+    requires { (g.now ≡ generator_low) × CheckTable t.now × (length r.now ≡ 187) }
+    ensures { result ≡ register_word r.now }
 {
     let mut s = dsc_shift_register::load(g, r);
     decide_bits(g, t, &mut s, r)

@@ -6,8 +6,8 @@ use mathlib.Core.Logic.{◌≢◌, inl, inr}
 use Prim.Native.Nat.{ℕ}
 use lib.ListN.{length, replicate}
 use Rattle.dsc.specs.Code.{weight}
-use Rattle.dsc.specs.Repair.{protected, refusedWith, leftIn}
-use Rattle.dsc.specs.Marks.{filled, decodeMarked, markedAnswer, markedRepairOf, marked}
+use Rattle.dsc.specs.Repair.{protected, refused_with, left_in}
+use Rattle.dsc.specs.Marks.{filled, decode_marked, marked_answer, marked_repair_of, marked}
 use Rattle.dsc.specs.declared.Answer.{Answer}
 use Rattle.dsc.specs.declared.Outcome.{Outcome}
 use Rattle.dsc.proofs.MarkedAnswers.{sized-whole, marked-decoded, each-answer}
@@ -57,26 +57,26 @@ module _ (ms r : List Bool) (lm : length ms ≡ 187) (lr : length r ≡ 187) whe
 pub marked-near : (ms r : List Bool) (x : Found) → MarkedFinds ms r x → {w : Word} {n : ℕ} → x ≡ found.Near w n → Answering ms r w n
 marked-near ms r x t e = subst (MarkedFinds ms r) e t
 
-pub marked-far : (ms r : List Bool) (x : Found) → MarkedFinds ms r x → x ≡ found.Far → refusedWith 4 ≡ markedAnswer ms r (decodeMarked ms r)
+pub marked-far : (ms r : List Bool) (x : Found) → MarkedFinds ms r x → x ≡ found.Far → refused_with 4 ≡ marked_answer ms r (decode_marked ms r)
 marked-far ms r x t e = subst (MarkedFinds ms r) e t
 
 -- ---- the answer to the frame f with the marks m
 
 module _ (f m : List ℕ) where
-  pub short-frame : length f ≢ 26 → refusedWith 1 ≡ markedRepairOf f m
+  pub short-frame : length f ≢ 26 → refused_with 1 ≡ marked_repair_of f m
   short-frame h = sym (doubtful-marks.short f m (inl h))
 
-  pub short-marks : length m ≢ 26 → refusedWith 1 ≡ markedRepairOf f m
+  pub short-marks : length m ≢ 26 → refused_with 1 ≡ marked_repair_of f m
   short-marks h = sym (doubtful-marks.short f m (inr h))
 
   pub answered : {r ms : List Bool} {a : Answer} → length f ≡ 26 → length m ≡ 26 → r ≡ protected f → ms ≡ protected m
-      → a ≡ markedAnswer ms r (decodeMarked ms r) → a ≡ markedRepairOf f m
+      → a ≡ marked_answer ms r (decode_marked ms r) → a ≡ marked_repair_of f m
   answered lf lm er em q =
-      q ∙ ap₂ (λ ms r. markedAnswer ms r (decodeMarked ms r)) em er ∙ sym (marked-decoded f m (sized-whole (marked m) f lf lm) (decodeMarked (protected m) (protected f)) refl)
+      q ∙ ap₂ (λ ms r. marked_answer ms r (decode_marked ms r)) em er ∙ sym (marked-decoded f m (sized-whole (marked m) f lf lm) (decode_marked (protected m) (protected f)) refl)
 
   -- a refusal has no word: the answer is its outcome and what it leaves of 26 clear bytes b
-  pub whole-answer : {o : Outcome} {b w : List ℕ} → o ≡ (markedRepairOf f m).outcome → w ≡ leftIn (markedRepairOf f m) b → b ≡ replicate 26 0
-      → ◌≡◌ {A = Answer} (record { outcome = o; word = w }) (markedRepairOf f m)
+  pub whole-answer : {o : Outcome} {b w : List ℕ} → o ≡ (marked_repair_of f m).outcome → w ≡ left_in (marked_repair_of f m) b → b ≡ replicate 26 0
+      → ◌≡◌ {A = Answer} (record { outcome = o; word = w }) (marked_repair_of f m)
   whole-answer eo ew eb =
-      ap₂ (λ o w. record { outcome = o; word = w }) eo (ew ∙ ap (leftIn (markedRepairOf f m)) eb)
-      ∙ each-answer (marked m) f (λ (a : Answer). ◌≡◌ {A = Answer} (record { outcome = a.outcome; word = leftIn a (replicate 26 0) }) a) (λ c n. refl) refl refl
+      ap₂ (λ o w. record { outcome = o; word = w }) eo (ew ∙ ap (left_in (marked_repair_of f m)) eb)
+      ∙ each-answer (marked m) f (λ (a : Answer). ◌≡◌ {A = Answer} (record { outcome = a.outcome; word = left_in a (replicate 26 0) }) a) (λ c n. refl) refl refl

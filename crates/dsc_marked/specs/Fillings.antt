@@ -2,8 +2,8 @@
 -- speak of it; the rules (Marks of dsc) do not. Assumes nothing.
 use Rattle.std.specs.Prelude.{◌≡◌, Bool, List, ℕ, ◌≤◌}
 use Rattle.dsc.specs.Code.{CodeWord, dist}
-use Rattle.dsc.specs.Repair.{repairedTo, refusedWith}
-use Rattle.dsc.specs.Marks.{unmarkedDist, Few, decodeMarked, markedAnswer}
+use Rattle.dsc.specs.Repair.{repaired_to, refused_with}
+use Rattle.dsc.specs.Marks.{unmarked_dist, Few, decode_marked, marked_answer}
 use Rattle.dsc_words.specs.Words.{held, Fits}
 use Rattle.dsc_words.specs.declared.Word.{Word}
 use Rattle.dsc_codec.specs.declared.Found.{Found}
@@ -13,12 +13,12 @@ use Rattle.dsc_codec.specs.declared.Found.TheVariants as found
 
 -- c differs from r in n unmarked places, and 2n+s is at most 17
 pub record Passed (ms r c : List Bool) (n : ℕ) : Type 0 where
-  pub places : n ≡ unmarkedDist ms r c
-  pub few : Few ms (unmarkedDist ms r c)
+  pub places : n ≡ unmarked_dist ms r c
+  pub few : Few ms (unmarked_dist ms r c)
 
 -- 2t+s of c is over 17
 pub record Failed (ms r c : List Bool) : Type 0 where
-  pub many : Few ms (unmarkedDist ms r c) → ⊥
+  pub many : Few ms (unmarked_dist ms r c) → ⊥
 
 -- the word w is found exactly where it passes
 abbrev pub Tested : (ms r : List Bool) → Word → Found → Type 0
@@ -29,11 +29,11 @@ Tested ms r w found.Far = Failed ms r (held w)
 
 -- w, in n places, makes the answer
 abbrev pub Answering : (ms r : List Bool) → Word → ℕ → Type 0
-Answering ms r w n = Fits w × (repairedTo (held w) n ≡ markedAnswer ms r (decodeMarked ms r))
+Answering ms r w n = Fits w × (repaired_to (held w) n ≡ marked_answer ms r (decode_marked ms r))
 
 -- no code word with 2t+s at most 17 lies within eight places of u
 pub record NoneNear (ms r u : List Bool) : Type 0 where
-  pub each : (c : List Bool) → CodeWord c → Few ms (unmarkedDist ms r c) → dist u c ≤ 8 → ⊥
+  pub each : (c : List Bool) → CodeWord c → Few ms (unmarked_dist ms r c) → dist u c ≤ 8 → ⊥
 
 -- what is found within eight places of u
 abbrev pub Tried : (ms r u : List Bool) → Found → Type 0
@@ -45,4 +45,4 @@ Tried ms r u found.Far = NoneNear ms r u
 -- what is found makes the answer
 abbrev pub MarkedFinds : (ms r : List Bool) → Found → Type 0
 MarkedFinds ms r (found.Near w n) = Answering ms r w n
-MarkedFinds ms r found.Far = refusedWith 4 ≡ markedAnswer ms r (decodeMarked ms r)
+MarkedFinds ms r found.Far = refused_with 4 ≡ marked_answer ms r (decode_marked ms r)

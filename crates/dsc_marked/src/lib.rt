@@ -3,8 +3,8 @@
 // two, where the plain repair finds it.
 ghost use Rattle.std.specs.Prelude.{◌≡◌, ◌≤◌, length};
 ghost use Rattle.dsc.specs.Code.{weight};
-ghost use Rattle.dsc.specs.Marks.{markedRepairOf};
-ghost use Rattle.dsc.specs.Repair.{leftIn};
+ghost use Rattle.dsc.specs.Marks.{marked_repair_of};
+ghost use Rattle.dsc.specs.Repair.{left_in};
 ghost use Rattle.dsc_words.specs.Words.{held, Fits};
 ghost use Rattle.dsc_marked.specs.Fillings.{Tested, Tried, MarkedFinds};
 
@@ -76,8 +76,8 @@ fn find_marked(received: Word, marks: Word) -> Found
 // length.
 pub fn repair_marked_into(frame: &[u8], marks: &[u8], word: &mut [u8]) -> Outcome
     requires { length word.old ≡ 26 }
-    ensures value { result ≡ (markedRepairOf frame.now marks.now).outcome }
-    ensures word_after { word.new ≡ leftIn (markedRepairOf frame.now marks.now) word.old }
+    ensures value { result ≡ (marked_repair_of frame.now marks.now).outcome }
+    ensures word_after { word.new ≡ left_in (marked_repair_of frame.now marks.now) word.old }
 {
     if frame.len() != 26 {
         return Outcome::Refused(1);
@@ -99,7 +99,7 @@ pub fn repair_marked_into(frame: &[u8], marks: &[u8], word: &mut [u8]) -> Outcom
 
 // The same with the word in the answer, all 0 on a refusal.
 pub fn repair_marked(frame: &[u8], marks: &[u8]) -> Answer
-    ensures { result ≡ markedRepairOf frame.now marks.now }
+    ensures { result ≡ marked_repair_of frame.now marks.now }
 {
     let mut word = [0; 26];
     let outcome = repair_marked_into(frame, marks, &mut word);

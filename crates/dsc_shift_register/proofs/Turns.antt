@@ -11,13 +11,13 @@ use lib.ListN.{length, set, drop, length-append, drop_of_length-le}
 use lib.Seq.{get_or-set_other}
 use Rattle.gf2.specs.Polynomial.{◌⊕◌, scale}
 use Rattle.gf2.specs.Register.{step, feed}
-use Rattle.gf2.proofs.Sum.{getD-add}
-use Rattle.dsc.specs.Code.{generatorLow, allZero}
+use Rattle.gf2.proofs.Sum.{get_or-add}
+use Rattle.dsc.specs.Code.{generator_low, all_zero}
 use Rattle.dsc.specs.CheckTable.{failures}
 use Rattle.dsc_bits.specs.Words.{at}
 use Rattle.dsc_bits.proofs.Octets.{zeros-at}
 use Rattle.dsc_bits.proofs.Steps.{next, ne-xor}
-use Rattle.dsc_shift_register.specs.Register.{decided, decidedPlace}
+use Rattle.dsc_shift_register.specs.Register.{decided, decided_place}
 
 -- ---- a shift, cell by cell
 
@@ -31,7 +31,7 @@ step-at : (g s : List Bool) (b : Bool) (k : ℕ) → k < length s → at (step g
 unfolding step
 step-at g [] b k h = absurd (omega arith)
 step-at g (x ∷ t) b k h =
-    getD-add (scale (x ⊕ b) g) (t ++ (false ∷ [])) k (omega (arith, length-append t (false ∷ [])))
+    get_or-add (scale (x ⊕ b) g) (t ++ (false ∷ [])) k (omega (arith, length-append t (false ∷ [])))
     ∙ ap (at (scale (x ⊕ b) g) k ⊕◌) (snoc-at t k ∙ sym (ap (at (x ∷ t)) (add-one k)))
 
 -- what cell k holds after it, by the bit that leaves at the top
@@ -69,33 +69,33 @@ feed-done g s w total n h inv = sym (ap (feed g s) (drop_of_length-le w h)) ∙ 
 -- ---- a cell is seen
 
 module _ (s : List Bool) (j : ℕ) (total : Bool) where
-  seen : j < length s → allZero (drop j s) ≡ not (at s j) && allZero (drop (j + 1) s)
-  unfolding allZero
-  seen h = ap allZero (next s j false h)
+  seen : j < length s → all_zero (drop j s) ≡ not (at s j) && all_zero (drop (j + 1) s)
+  unfolding all_zero
+  seen h = ap all_zero (next s j false h)
 
-  pub zero-next : j < length s → at s j ≡ false → allZero (drop j s) ≡ total → allZero (drop (j + 1) s) ≡ total
-  zero-next h e inv = sym (seen h ∙ ap (λ b. not b && allZero (drop (j + 1) s)) e) ∙ inv
+  pub zero-next : j < length s → at s j ≡ false → all_zero (drop j s) ≡ total → all_zero (drop (j + 1) s) ≡ total
+  zero-next h e inv = sym (seen h ∙ ap (λ b. not b && all_zero (drop (j + 1) s)) e) ∙ inv
 
-  pub zero-not : j < length s → at s j ≡ true → allZero (drop j s) ≡ total → false ≡ total
-  zero-not h e inv = sym (seen h ∙ ap (λ b. not b && allZero (drop (j + 1) s)) e) ∙ inv
+  pub zero-not : j < length s → at s j ≡ true → all_zero (drop j s) ≡ total → false ≡ total
+  zero-not h e inv = sym (seen h ∙ ap (λ b. not b && all_zero (drop (j + 1) s)) e) ∙ inv
 
-  pub zero-done : length s ≤ j → allZero (drop j s) ≡ total → true ≡ total
-  unfolding allZero
-  zero-done h inv = sym (ap allZero (drop_of_length-le s h)) ∙ inv
+  pub zero-done : length s ≤ j → all_zero (drop j s) ≡ total → true ≡ total
+  unfolding all_zero
+  zero-done h inv = sym (ap all_zero (drop_of_length-le s h)) ∙ inv
 
 -- ---- a place is decided
 
 pub length-decided : (s w : List Bool) → length (decided s w) ≡ length w
 length-decided s [] = refl
-length-decided s (b ∷ w) = ap suc (length-decided (step generatorLow s false) w)
+length-decided s (b ∷ w) = ap suc (length-decided (step generator_low s false) w)
 
 -- where n bits of r are decided, and the register's state is s
 module _ (s₀ r s : List Bool) (n : ℕ) (h : n < length r) (inv : drop n (decided s₀ r) ≡ decided s (drop n r)) where
-  parts : at (decided s₀ r) n ∷ drop (n + 1) (decided s₀ r) ≡ (at r n ⊕ leb 9 (failures s decidedPlace)) ∷ decided (step generatorLow s false) (drop (n + 1) r)
+  parts : at (decided s₀ r) n ∷ drop (n + 1) (decided s₀ r) ≡ (at r n ⊕ leb 9 (failures s decided_place)) ∷ decided (step generator_low s false) (drop (n + 1) r)
   parts = sym (next (decided s₀ r) n false (omega (arith, length-decided s₀ r))) ∙ inv ∙ ap (decided s) (next r n false h)
 
-  pub decided-at : at r n ⊕ leb 9 (failures s decidedPlace) ≡ at (decided s₀ r) n
+  pub decided-at : at r n ⊕ leb 9 (failures s decided_place) ≡ at (decided s₀ r) n
   decided-at = cc parts
 
-  pub decided-next : (s' : List Bool) → s' ≡ step generatorLow s false → drop (n + 1) (decided s₀ r) ≡ decided s' (drop (n + 1) r)
+  pub decided-next : (s' : List Bool) → s' ≡ step generator_low s false → drop (n + 1) (decided s₀ r) ≡ decided s' (drop (n + 1) r)
   decided-next s' e = rw e (cc parts)

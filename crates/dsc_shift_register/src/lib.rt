@@ -3,7 +3,7 @@
 ghost use Rattle.std.specs.Prelude.{◌≡◌, ◌+◌, ◌<◌, length};
 ghost use Rattle.gf2.specs.Polynomial.{◌⊕◌, zeros, scale};
 ghost use Rattle.gf2.specs.Register.{step};
-ghost use Rattle.dsc.specs.Code.{generatorLow, allZero};
+ghost use Rattle.dsc.specs.Code.{generator_low, all_zero};
 ghost use Rattle.dsc_bits.specs.Words.{at};
 ghost use Rattle.dsc_shift_register.specs.Register.{loaded};
 
@@ -44,7 +44,7 @@ pub fn shift(g: &[bool], s: &mut [bool; 82], b: bool)
 
 // The state when the 187 bits of a word have gone in, first bit first.
 pub fn load(g: &[bool], w: &[bool]) -> [bool; 82]
-    requires { (g.now ≡ generatorLow) × (length w.now ≡ 187) }
+    requires { (g.now ≡ generator_low) × (length w.now ≡ 187) }
     ensures { result ≡ loaded w.now }
 {
     let mut s = clear();
@@ -57,7 +57,7 @@ pub fn load(g: &[bool], w: &[bool]) -> [bool; 82]
 // Every cell holds 0.
 fn is_zero(s: &[bool]) -> bool
     requires { length s.now ≡ 82 }
-    ensures { result ≡ allZero s.now }
+    ensures { result ≡ all_zero s.now }
 {
     for j in 0..82 {
         if s[j] {
@@ -69,8 +69,8 @@ fn is_zero(s: &[bool]) -> bool
 
 // Nothing remains in the register when the word has gone in: then it is a code word, and only then.
 pub fn is_code_word(g: &[bool], w: &[bool]) -> bool
-    requires { (g.now ≡ generatorLow) × (length w.now ≡ 187) }
-    ensures { result ≡ allZero (loaded w.now) }
+    requires { (g.now ≡ generator_low) × (length w.now ≡ 187) }
+    ensures { result ≡ all_zero (loaded w.now) }
 {
     let s = load(g, w);
     is_zero(&s)

@@ -3,15 +3,15 @@
 -- Assumes nothing.
 use Rattle.std.specs.Prelude.{◌≡◌, Bool, false, cond, List, ℕ, ◌+◌, ◌-◌, ◌*◌, ◌<◌, ltb}
 use Rattle.lanes.specs.Lane.{lane}
-use Rattle.dsc.specs.CheckTable.{differences, coefficient, sumOver, syndrome}
+use Rattle.dsc.specs.CheckTable.{differences, coefficient, sum_over, syndrome}
 
 -- the coefficient of x^n in x^d times w
-abbrev pub timesPower : ℕ → List Bool → ℕ → Bool
-timesPower d w n = cond (ltb n d) false (coefficient w (n - d))
+abbrev pub times_power : ℕ → List Bool → ℕ → Bool
+times_power d w n = cond (ltb n d) false (coefficient w (n - d))
 
 -- the coefficient of x^n in the product of w and the sum of x^d over the differences d
 abbrev pub product : List Bool → ℕ → Bool
-product w n = sumOver (λ d. timesPower d w n) differences
+product w n = sum_over (λ d. times_power d w n) differences
 
 -- x is limb k of that product: 64 coefficients
 pub record Limb (w : List Bool) (k x : ℕ) : Type 0 where

@@ -1,6 +1,6 @@
 // The generator, as data.
 ghost use Rattle.std.specs.Prelude.{◌≡◌};
-ghost use Rattle.dsc.specs.Code.{generatorLow};
+ghost use Rattle.dsc.specs.Code.{generator_low};
 
 // The 82 coefficients of the generator below x^82, from x^81 down.
 const LOW: [bool; 82] = [
@@ -14,7 +14,7 @@ const LOW: [bool; 82] = [
 
 // Those coefficients, to be taken once for a division and lent on: each index into a constant would copy the whole of it.
 pub fn low() -> [bool; 82]
-    ensures { result ≡ generatorLow }
+    ensures { result ≡ generator_low }
 {
     LOW
 }

@@ -12,11 +12,11 @@ use lib.Pow.{shl-shr, shr-shr}
 use lib.Seq.{sets, sets-eq, take-add, drop-drop}
 use Rattle.bits.specs.Bits.{digit, value, bits_of, bits, bytes}
 use Rattle.bits.specs.Field.{field_at}
-use Rattle.bits.proofs.Bits.{length-bitsOf, length-bytes, value-bitsOf, value-take-lt, bitsOf-add, take-drop-bitsOf, bytes-append}
+use Rattle.bits.proofs.Bits.{length-bits_of, length-bytes, value-bits_of, value-take-lt, bits_of-add, take-drop-bits_of, bytes-append}
 use Rattle.bits.proofs.Field.{bits-of-field}
 use Rattle.bits.proofs.Slices.{sets-append}
 use Rattle.gf2.specs.Polynomial.{zeros}
-use Rattle.lanes.proofs.Number.{bitsOf-wider, bitsOf-low, bitsOf-shl, bitsOf-join}
+use Rattle.lanes.proofs.Number.{bits_of-wider, bits_of-low, bits_of-shl, bits_of-join}
 use Rattle.dsc.specs.Repair.{protected, word_bytes}
 use Rattle.dsc_bits.proofs.Octets.{bytes-at}
 use Rattle.dsc_words.specs.Words.{word_of}
@@ -28,7 +28,7 @@ module _ (f : List ℕ) (h : length f ≡ 26) where
   first_word : (z : ℕ) → z ≡ field_at f 16 64 → bits_of 59 (z * 2 ^ 1 % 2 ^ 64 / 2 ^ 5) ≡ take 59 (drop 17 (bits f))
   first_word z ez =
       ap (bits_of 59) (pow.field (z * 2 ^ 1) 59 5)
-      ∙ bitsOf-low 59 (z * 2 ^ 1 / 2 ^ 5)
+      ∙ bits_of-low 59 (z * 2 ^ 1 / 2 ^ 5)
       ∙ ap (bits_of 59) (sym (shr-shr (z * 2 ^ 1) 1 4) ∙ ap (◌/ 2 ^ 4) (shl-shr z 1 ∙ ez))
       ∙ sym (bits-of-field f 16 1 59 4 (omega arith))
 
@@ -38,7 +38,7 @@ module _ (f : List ℕ) (h : length f ≡ 26) where
   next_word u v k l eu ev =
       let fits : field_at f (k + 64) 64 < 2 ^ 64 = value-take-lt 64 (drop (k + 64) (bits f)) in
       let place : k + 64 + 0 ≡ k + 60 + 4 = omega arith in
-      bitsOf-join 4 60 v u (omega arith)
+      bits_of-join 4 60 v u (omega arith)
       ∙ ap₂ ◌++◌ (ap (bits_of 4) (eu ∙ sym (div-one (field_at f k 64))) ∙ sym (bits-of-field f k 60 4 0 (omega arith)))
       (ap (λ n. bits_of 60 (n / 2 ^ 4)) ev
       ∙ sym (bits-of-field f (k + 64) 0 60 4 (omega arith))
@@ -63,8 +63,8 @@ module _ (f : List ℕ) (h : length f ≡ 26) where
 pub word_byte : (n i : ℕ) → i < 8 → get_or (bytes 8 (bits_of 64 n)) i 0 ≡ n / 2 ^ (56 - 8 * i) % 2 ^ 8
 word_byte n i h =
     bytes-at 8 (bits_of 64 n) i h
-    ∙ ap value (take-drop-bitsOf 64 n (8 * i) 8 (omega arith))
-    ∙ value-bitsOf 8 (n / 2 ^ (64 - 8 * i - 8))
+    ∙ ap value (take-drop-bits_of 64 n (8 * i) 8 (omega arith))
+    ∙ value-bits_of 8 (n / 2 ^ (64 - 8 * i - 8))
     ∙ ap (λ k. n / 2 ^ k % 2 ^ 8) (let e : 64 - 8 * i - 8 ≡ 56 - 8 * i = omega arith in e)
 
 -- 16 clear bits are two clear bytes
@@ -93,8 +93,8 @@ stored l x y z h =
     ∙ append-nil all
     ∙ sym (bytes-append 2 24 (zeros 16) (bits_of 64 z ++ (bits_of 64 y ++ bits_of 64 x)) refl
     ∙ ap₂ ◌++◌ two-clear
-    (bytes-append 8 16 (bits_of 64 z) (bits_of 64 y ++ bits_of 64 x) (length-bitsOf 64 z)
-    ∙ ap (a ++◌) (bytes-append 8 8 (bits_of 64 y) (bits_of 64 x) (length-bitsOf 64 y))))
+    (bytes-append 8 16 (bits_of 64 z) (bits_of 64 y ++ bits_of 64 x) (length-bits_of 64 z)
+    ∙ ap (a ++◌) (bytes-append 8 8 (bits_of 64 y) (bits_of 64 x) (length-bits_of 64 y))))
 
 -- parts of three rows, joined as parts of three others
 regroup : (a b c d e z : List Bool) → (a ++ ((b ++ c) ++ (d ++ e))) ++ z ≡ (a ++ b) ++ ((c ++ d) ++ (e ++ z))
@@ -120,5 +120,5 @@ stored-word low middle high l one two three h hl hm hh e₁ e₂ e₃ =
     ∙ ap (λ o. sets o 18 (bytes 8 (bits_of 64 x))) (e₂ ∙ ap (λ o. sets o 10 (bytes 8 (bits_of 64 y))) e₁)
     ∙ stored l x y z h
     ∙ ap (λ t. bytes 26 (zeros 16 ++ t))
-    (ap₂ ◌++◌ (bitsOf-join 60 4 middle high hm ∙ ap (◌++ b) (bitsOf-wider 1 59 high hh)) (ap₂ ◌++◌ (bitsOf-join 60 4 low middle hl) (bitsOf-shl 60 4 low)))
-    ∙ ap (λ t. bytes 26 (zeros 17 ++ t)) (sym (ap₂ (λ m l. (a ++ (m ++ l)) ++ zeros 4) (bitsOf-add 4 60 middle) (bitsOf-add 4 60 low) ∙ regroup a b c d f (zeros 4)))
+    (ap₂ ◌++◌ (bits_of-join 60 4 middle high hm ∙ ap (◌++ b) (bits_of-wider 1 59 high hh)) (ap₂ ◌++◌ (bits_of-join 60 4 low middle hl) (bits_of-shl 60 4 low)))
+    ∙ ap (λ t. bytes 26 (zeros 17 ++ t)) (sym (ap₂ (λ m l. (a ++ (m ++ l)) ++ zeros 4) (bits_of-add 4 60 middle) (bits_of-add 4 60 low) ∙ regroup a b c d f (zeros 4)))

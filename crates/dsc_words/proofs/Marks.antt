@@ -8,7 +8,7 @@ use native.Mathlib.Omega.{arith}
 use lib.Bits.{bit_xor, bit_and, bit_or}
 use lib.ListN.{length}
 use Rattle.bits.specs.Bits.{bits_of}
-use Rattle.bits.proofs.Bits.{length-bitsOf}
+use Rattle.bits.proofs.Bits.{length-bits_of}
 use Rattle.gf2.specs.Polynomial.{◌⊕◌}
 use Rattle.lanes.specs.Lane.{lane}
 use Rattle.lanes.proofs.Lanes.{lane_xor, lane_and, lane_or}
@@ -47,18 +47,18 @@ filled-append b (c ∷ m) n [] y e = absurd (omega arith)
 filled-append b (c ∷ m) n (a ∷ x) y e = ap (cond c b a ∷◌) (filled-append b m n x y (suc_inj e))
 
 module _ {b : Bool} {op : ℕ → ℕ → ℕ} (fills : Fills b op) where
-  filled-bitsOf : (k x m : ℕ) → filled b (bits_of k m) (bits_of k x) ≡ bits_of k (op x m)
+  filled-bits_of : (k x m : ℕ) → filled b (bits_of k m) (bits_of k x) ≡ bits_of k (op x m)
   unfolding filled bits_of lane
-  filled-bitsOf zero x m = refl
-  filled-bitsOf (suc k) x m = ap₂ ◌∷◌ (sym (fills.each x m k)) (filled-bitsOf k x m)
+  filled-bits_of zero x m = refl
+  filled-bits_of (suc k) x m = ap₂ ◌∷◌ (sym (fills.each x m k)) (filled-bits_of k x m)
 
   -- the word low, middle, high beside the marks l, m, h
-  pub filled-wordOf : (low middle high l m h : ℕ) → word_of (op low l) (op middle m) (op high h) ≡ filled b (word_of l m h) (word_of low middle high)
+  pub filled-word_of : (low middle high l m h : ℕ) → word_of (op low l) (op middle m) (op high h) ≡ filled b (word_of l m h) (word_of low middle high)
   unfolding word_of
-  filled-wordOf low middle high l m h =
-      let same : (k x y : ℕ) → length (bits_of k x) ≡ length (bits_of k y) = λ k x y. length-bitsOf k x ∙ sym (length-bitsOf k y) in
+  filled-word_of low middle high l m h =
+      let same : (k x y : ℕ) → length (bits_of k x) ≡ length (bits_of k y) = λ k x y. length-bits_of k x ∙ sym (length-bits_of k y) in
       sym
       (filled-append b (bits_of 59 h) (bits_of 64 m ++ bits_of 64 l) (bits_of 59 high) (bits_of 64 middle ++ bits_of 64 low) (same 59 h high)
-      ∙ ap₂ ◌++◌ (filled-bitsOf 59 high h)
+      ∙ ap₂ ◌++◌ (filled-bits_of 59 high h)
       (filled-append b (bits_of 64 m) (bits_of 64 l) (bits_of 64 middle) (bits_of 64 low) (same 64 m middle)
-      ∙ ap₂ ◌++◌ (filled-bitsOf 64 middle m) (filled-bitsOf 64 low l)))
+      ∙ ap₂ ◌++◌ (filled-bits_of 64 middle m) (filled-bits_of 64 low l)))

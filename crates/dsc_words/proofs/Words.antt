@@ -11,12 +11,12 @@ use lib.Dec.{eqb, ltb}
 use lib.ListN.{length, get_or, length-append}
 use borrow.Author.Tests.{eq-eqb, ne_eqb, eqb-true, eqb-false, ltb-true, ltb-false}
 use Rattle.bits.specs.Bits.{digit, odd, bits_of}
-use Rattle.bits.proofs.Bits.{length-bitsOf, getD-bitsOf}
+use Rattle.bits.proofs.Bits.{length-bits_of, get_or-bits_of}
 use Rattle.gf2.specs.Polynomial.{add}
 use Rattle.gf2.proofs.Sum.{add-append}
 use Rattle.lanes.specs.Lane.{lane, bit_at}
 use Rattle.lanes.proofs.Lanes.{lane_past}
-use Rattle.lanes.proofs.Number.{add-bitsOf}
+use Rattle.lanes.proofs.Number.{add-bits_of}
 use Rattle.dsc.specs.Code.{count, weight}
 use Rattle.dsc.specs.CheckTable.{coefficient, upto}
 use Rattle.dsc.proofs.CheckRows.{coefficient-at, coefficient-out}
@@ -44,44 +44,44 @@ coefficient-high (a ∷ x) y p = go (coefficient-high x y p) (eqb p (length x)) 
         let ne : p ≢ length x = eqb-false p (length x) e in
         ap (λ t. cond t a c) (ne_eqb (length y + p) (length (x ++ y)) (λ q. ne (omega (arith, length-append x y)))) ∙ ih
 
-coefficient-bitsOf : (k v p : ℕ) → p < k → coefficient (bits_of k v) p ≡ lane v p
+coefficient-bits_of : (k v p : ℕ) → p < k → coefficient (bits_of k v) p ≡ lane v p
 unfolding lane
-coefficient-bitsOf k v p h =
-    coefficient-at (bits_of k v) p (k - 1 - p) (omega (arith, length-bitsOf k v))
-    ∙ getD-bitsOf k v (k - 1 - p) (omega arith)
+coefficient-bits_of k v p h =
+    coefficient-at (bits_of k v) p (k - 1 - p) (omega (arith, length-bits_of k v))
+    ∙ get_or-bits_of k v (k - 1 - p) (omega arith)
     ∙ ap (λ n. odd (v / 2 ^ n)) (omega arith)
 
 -- ---- the word
 
 module _ (low middle high : ℕ) where
   two-low : length (bits_of 64 middle ++ bits_of 64 low) ≡ 128
-  two-low = length-append (bits_of 64 middle) (bits_of 64 low) ∙ ap₂ ◌+◌ (length-bitsOf 64 middle) (length-bitsOf 64 low)
+  two-low = length-append (bits_of 64 middle) (bits_of 64 low) ∙ ap₂ ◌+◌ (length-bits_of 64 middle) (length-bits_of 64 low)
 
-  pub length-wordOf : length (word_of low middle high) ≡ 187
+  pub length-word_of : length (word_of low middle high) ≡ 187
   unfolding word_of
-  length-wordOf = length-append (bits_of 59 high) (bits_of 64 middle ++ bits_of 64 low) ∙ ap₂ ◌+◌ (length-bitsOf 59 high) two-low
+  length-word_of = length-append (bits_of 59 high) (bits_of 64 middle ++ bits_of 64 low) ∙ ap₂ ◌+◌ (length-bits_of 59 high) two-low
 
   pub at_low : (p : ℕ) → p < 64 → coefficient (word_of low middle high) p ≡ lane low p
   unfolding word_of
   at_low p h =
       coefficient-low (bits_of 59 high) (bits_of 64 middle ++ bits_of 64 low) p (omega (arith, two-low))
-      ∙ coefficient-low (bits_of 64 middle) (bits_of 64 low) p (omega (arith, length-bitsOf 64 low))
-      ∙ coefficient-bitsOf 64 low p h
+      ∙ coefficient-low (bits_of 64 middle) (bits_of 64 low) p (omega (arith, length-bits_of 64 low))
+      ∙ coefficient-bits_of 64 low p h
 
   pub at-middle : (p : ℕ) → p < 64 → coefficient (word_of low middle high) (64 + p) ≡ lane middle p
   unfolding word_of
   at-middle p h =
       coefficient-low (bits_of 59 high) (bits_of 64 middle ++ bits_of 64 low) (64 + p) (omega (arith, two-low))
-      ∙ ap (λ n. coefficient (bits_of 64 middle ++ bits_of 64 low) (n + p)) (sym (length-bitsOf 64 low))
+      ∙ ap (λ n. coefficient (bits_of 64 middle ++ bits_of 64 low) (n + p)) (sym (length-bits_of 64 low))
       ∙ coefficient-high (bits_of 64 middle) (bits_of 64 low) p
-      ∙ coefficient-bitsOf 64 middle p h
+      ∙ coefficient-bits_of 64 middle p h
 
   pub at_high : (p : ℕ) → p < 59 → coefficient (word_of low middle high) (128 + p) ≡ lane high p
   unfolding word_of
   at_high p h =
       ap (λ n. coefficient (word_of low middle high) (n + p)) (sym two-low)
       ∙ coefficient-high (bits_of 59 high) (bits_of 64 middle ++ bits_of 64 low) p
-      ∙ coefficient-bitsOf 59 high p h
+      ∙ coefficient-bits_of 59 high p h
 
   module _ (fits : high < 2 ^ 59) where
     -- past the 187 bits there is nothing
@@ -92,7 +92,7 @@ module _ (low middle high : ℕ) where
         go true e = sym (at_high p (ltb-true p 59 e))
         go false e =
             let l = ltb-false p 59 e in
-            lane_past high 59 p fits l ∙ sym (coefficient-out (word_of low middle high) (128 + p) (omega (arith, length-wordOf)))
+            lane_past high 59 p fits l ∙ sym (coefficient-out (word_of low middle high) (128 + p) (omega (arith, length-word_of)))
 
     pub bit_word : (m : ℕ) → m < 192 → bit_at (low ∷ middle ∷ high ∷ []) m ≡ coefficient (word_of low middle high) m
     bit_word m h = go (m / 64) refl
@@ -107,23 +107,23 @@ module _ (low middle high : ℕ) where
         go (suc (suc (suc q))) e = absurd (omega arith)
 
 pub length-held : (w : Word) → length (held w) ≡ 187
-length-held w = length-wordOf w.low w.middle w.high
+length-held w = length-word_of w.low w.middle w.high
 
 -- ---- sums
 
-pub add-wordOf : (a b c d e f : ℕ) → add (word_of a b c) (word_of d e f) ≡ word_of (bit_xor a d) (bit_xor b e) (bit_xor c f)
+pub add-word_of : (a b c d e f : ℕ) → add (word_of a b c) (word_of d e f) ≡ word_of (bit_xor a d) (bit_xor b e) (bit_xor c f)
 unfolding word_of
-add-wordOf a b c d e f =
-    add-append (bits_of 59 c) (bits_of 64 b ++ bits_of 64 a) (bits_of 59 f) (bits_of 64 e ++ bits_of 64 d) (length-bitsOf 59 c ∙ sym (length-bitsOf 59 f))
-    ∙ ap₂ ◌++◌ (add-bitsOf 59 c f)
-    (add-append (bits_of 64 b) (bits_of 64 a) (bits_of 64 e) (bits_of 64 d) (length-bitsOf 64 b ∙ sym (length-bitsOf 64 e))
-    ∙ ap₂ ◌++◌ (add-bitsOf 64 b e) (add-bitsOf 64 a d))
+add-word_of a b c d e f =
+    add-append (bits_of 59 c) (bits_of 64 b ++ bits_of 64 a) (bits_of 59 f) (bits_of 64 e ++ bits_of 64 d) (length-bits_of 59 c ∙ sym (length-bits_of 59 f))
+    ∙ ap₂ ◌++◌ (add-bits_of 59 c f)
+    (add-append (bits_of 64 b) (bits_of 64 a) (bits_of 64 e) (bits_of 64 d) (length-bits_of 64 b ∙ sym (length-bits_of 64 e))
+    ∙ ap₂ ◌++◌ (add-bits_of 64 b e) (add-bits_of 64 a d))
 
 -- ---- weight
 
-pub weight-wordOf : (low middle high : ℕ) → low < 2 ^ 64 → middle < 2 ^ 64 → high < 2 ^ 59 → weight (word_of low middle high) ≡ ones low + ones middle + ones high
+pub weight-word_of : (low middle high : ℕ) → low < 2 ^ 64 → middle < 2 ^ 64 → high < 2 ^ 59 → weight (word_of low middle high) ≡ ones low + ones middle + ones high
 unfolding word_of
-weight-wordOf low middle high hl hm hh =
+weight-word_of low middle high hl hm hh =
     omega (
       arith,
       weight-append (bits_of 59 high) (bits_of 64 middle ++ bits_of 64 low),

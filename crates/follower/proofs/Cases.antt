@@ -9,15 +9,15 @@ use Rattle.follower.specs.declared.Seen.TheVariants as seen
 use Rattle.follower.specs.declared.Follower.{Follower}
 use Rattle.follower.specs.declared.Follower.TheVariants.{Quiet, Active}
 use Rattle.follower.specs.declared.Step.{Step}
-use Rattle.follower.specs.Follow.{informationEvent, silenceEvent, stepSeen}
+use Rattle.follower.specs.Follow.{information_event, silence_event, step_seen}
 
 module _ (s : Follower) (x : Seen) where
-  pub step-refused : (n : ℕ) → x ≡ seen.Refused n → ◌≡◌ {A = Step} (record { next = s; event = event.Refused n }) (stepSeen s x)
+  pub step-refused : (n : ℕ) → x ≡ seen.Refused n → ◌≡◌ {A = Step} (record { next = s; event = event.Refused n }) (step_seen s x)
   step-refused n e = rw e
 
-  pub step-silent : (t : Follower) → s ≡ t → x ≡ seen.Silence → ◌≡◌ {A = Step} (record { next = Quiet; event = silenceEvent t }) (stepSeen s x)
+  pub step-silent : (t : Follower) → s ≡ t → x ≡ seen.Silence → ◌≡◌ {A = Step} (record { next = Quiet; event = silence_event t }) (step_seen s x)
   step-silent t h e = rw (h, e)
 
-  pub step-informed : (k : Kind) (u : ℕ) (v : Event) → x ≡ seen.Information k u → v ≡ informationEvent s k u
-      → ◌≡◌ {A = Step} (record { next = Active k u; event = v }) (stepSeen s x)
+  pub step-informed : (k : Kind) (u : ℕ) (v : Event) → x ≡ seen.Information k u → v ≡ information_event s k u
+      → ◌≡◌ {A = Step} (record { next = Active k u; event = v }) (step_seen s x)
   step-informed k u v e h = rw (e, h)

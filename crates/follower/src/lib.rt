@@ -1,7 +1,7 @@
 // Following the update number, by the edition named: the old state goes in by value, the next one comes back with an event.
 ghost use Rattle.std.specs.Prelude.{◌≡◌};
 ghost use Rattle.follower.specs.declared.Follower.TheVariants.{Quiet};
-ghost use Rattle.follower.specs.Follow.{informationEvent, seenIn, seenOf, stepSeen};
+ghost use Rattle.follower.specs.Follow.{information_event, seen_in, seen_of, step_seen};
 
 pub use follower_events::{Event, Kind};
 use frame::{Class, Edition, Reading, Record};
@@ -30,7 +30,7 @@ pub struct Step {
 
 // The event of information.
 fn information_event(state: Follower, kind: Kind, update: u64) -> Event
-    ensures { result ≡ informationEvent state kind update }
+    ensures { result ≡ information_event state kind update }
 {
     match state {
         Follower::Quiet => Event::Begins,
@@ -45,7 +45,7 @@ fn information_event(state: Follower, kind: Kind, update: u64) -> Event
 
 // What an accepted frame's record shows.
 fn seen_in(class: Class, message: Record) -> Seen
-    ensures { result ≡ seenIn class message }
+    ensures { result ≡ seen_in class message }
 {
     match class {
         Class::Warning => Seen::Information(
@@ -63,7 +63,7 @@ fn seen_in(class: Class, message: Record) -> Seen
 
 // What a frame shows, as it was read.
 pub fn seen_of(edition: Edition, reading: Reading) -> Seen
-    ensures { result ≡ seenOf edition reading }
+    ensures { result ≡ seen_of edition reading }
 {
     match reading {
         Reading::Refused(n) => Seen::Refused(n),
@@ -89,7 +89,7 @@ impl Follower {
 
     // What was seen, followed: the state by value, and the next one out with the event.
     pub fn follow(self, seen: Seen) -> Step
-        ensures { result ≡ stepSeen self seen }
+        ensures { result ≡ step_seen self seen }
     {
         match seen {
             Seen::Refused(n) => Step {

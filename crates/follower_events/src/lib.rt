@@ -1,6 +1,6 @@
 // The kinds of what is announced, and how an update number went, as events.
 ghost use Rattle.std.specs.Prelude.{◌≡◌};
-ghost use Rattle.follower_events.specs.Events.{kind_of, kindNumber, kind_at, sameKind, changeOf};
+ghost use Rattle.follower_events.specs.Events.{kind_of, kind_number, kind_at, same_kind, change_of};
 
 // Identification 0 and 1 are a real warning, 2 and 3 a test of it; 5 is area safety information, 6 a test of that.
 #[derive(Drop)]
@@ -40,7 +40,7 @@ pub fn kind_of(identification: u64) -> Kind
 
 // A number for each kind.
 pub fn kind_number(kind: Kind) -> u32
-    ensures { result ≡ kindNumber kind }
+    ensures { result ≡ kind_number kind }
 {
     match kind {
         Kind::Real => 1,
@@ -68,7 +68,7 @@ pub fn kind_at(number: u32) -> Kind
 
 // How the update number went. The old one may be any number, so that it is cut down before 1 is added.
 pub fn change(old: u64, new: u64) -> Event
-    ensures { result ≡ changeOf old new }
+    ensures { result ≡ change_of old new }
 {
     if new == old {
         return Event::Same;
@@ -80,7 +80,7 @@ pub fn change(old: u64, new: u64) -> Event
 }
 
 pub fn same_kind(one: Kind, other: Kind) -> bool
-    ensures { result ≡ sameKind one other }
+    ensures { result ≡ same_kind one other }
 {
     kind_number(one) == kind_number(other)
 }

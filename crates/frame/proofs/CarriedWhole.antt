@@ -10,16 +10,16 @@ use lib.ListN.{take, drop, get_or}
 use borrow.Author.Tests.{eqb-true}
 use Rattle.bits.specs.Bits.{bits_of}
 use Rattle.bits.specs.Layout.{Fit, pack, unpack}
-use Rattle.bits.specs.Refusal.{firstRefusal, or_else}
-use Rattle.bits.specs.Segment.{widths, freeWidths, fixedHold, withFixed, packSegments, fixedBitsHold}
+use Rattle.bits.specs.Refusal.{first_refusal, or_else}
+use Rattle.bits.specs.Segment.{widths, free_widths, fixed_hold, with_fixed, pack_segments, fixed_bits_hold}
 use Rattle.bits.proofs.Refusal.{none-refusal, refusal-append, refusal-most}
-use Rattle.dsc.specs.Marks.{Marking, repairBy}
-use Rattle.frame.specs.Identification.{classOf, isUndefined}
+use Rattle.dsc.specs.Marks.{Marking, repair_by}
+use Rattle.frame.specs.Identification.{class_of, is_undefined}
 use Rattle.frame.specs.Body.{row, layout}
-use Rattle.frame.specs.Fields.{fields, noOrigin, SameFields, gather, scatter, fieldWidths, bodyValues, recordBody, overLimit}
-use Rattle.frame.specs.Read.{classIn, bodyIn, detailsIn, recordIn, frameTests, refusalBy, read_by, cleanBy}
+use Rattle.frame.specs.Fields.{fields, no_origin, SameFields, gather, scatter, field_widths, body_values, record_body, over_limit}
+use Rattle.frame.specs.Read.{class_in, body_in, details_in, record_in, frame_tests, refusal_by, read_by, clean_by}
 use Rattle.frame.specs.Write.{Legal, frame_of}
-use Rattle.frame.specs.Promises.{safetyRecord, CarriedWhole}
+use Rattle.frame.specs.Promises.{safety_record, CarriedWhole}
 use Rattle.frame.specs.declared.Edition.{Edition}
 use Rattle.frame.specs.declared.Edition.TheVariants.{AreaSafety}
 use Rattle.frame.specs.declared.Class.{Class}
@@ -39,57 +39,57 @@ use Rattle.frame.proofs.Promises.{demand2}
 safety-only : {c : Class} {p k : ℕ} → Chosen c p k SafetyDetails → c ≡ SafetyInformation
 safety-only safety = refl
 
-safety-body : (ed : Edition) (r : Record) → classOf ed r.identification ≡ SafetyInformation → recordBody ed r ≡ SafetyDetails
+safety-body : (ed : Edition) (r : Record) → class_of ed r.identification ≡ SafetyInformation → record_body ed r ≡ SafetyDetails
 safety-body ed r s = rw s
 
-in-details : (r : Record) → packSegments (layout SafetyDetails) (bodyValues SafetyDetails r) ≡ bits_of 31 r.time ++ bits_of 57 r.region
-unfolding row layout gather bodyValues widths withFixed pack
+in-details : (r : Record) → pack_segments (layout SafetyDetails) (body_values SafetyDetails r) ≡ bits_of 31 r.time ++ bits_of 57 r.region
+unfolding row layout gather body_values widths with_fixed pack
 in-details r = ap (bits_of 31 r.time ++◌) (append-nil (bits_of 57 r.region))
 
 details : (ed : Edition) (q : Marking) (t : Tuner) (f : List ℕ) (r : Record) (d : ℕ) → read_by ed q t f ≡ Accepted r d
-    → classOf ed r.identification ≡ SafetyInformation → detailsIn (cleanBy q f) ≡ bits_of 31 r.time ++ bits_of 57 r.region
+    → class_of ed r.identification ≡ SafetyInformation → details_in (clean_by q f) ≡ bits_of 31 r.time ++ bits_of 57 r.region
 details ed q t f r d e s =
-    ap detailsIn (sym ((demand2 ed).written-again q t f r d e))
+    ap details_in (sym ((demand2 ed).written-again q t f r d e))
     ∙ (own-parts ed r (frame_of ed r) (length-frame ed r) (parts-frame ed r).word).details
-    ∙ ap (λ (b : Body). packSegments (layout b) (bodyValues b r)) (safety-body ed r s)
+    ∙ ap (λ (b : Body). pack_segments (layout b) (body_values b r)) (safety-body ed r s)
     ∙ in-details r
 
-fit : (t g : ℕ) → t < 2 ^ 31 → g < 2 ^ 57 → Fit (freeWidths (layout SafetyDetails)) (t ∷ g ∷ [])
-unfolding row layout freeWidths
+fit : (t g : ℕ) → t < 2 ^ 31 → g < 2 ^ 57 → Fit (free_widths (layout SafetyDetails)) (t ∷ g ∷ [])
+unfolding row layout free_widths
 fit t g ht hg = (ht, (hg, tt))
 
 three-bits : (i : ℕ) → (i ≡ 5) ⊎ (i ≡ 6) → i < 8
 three-bits i (inl e) = omega arith
 three-bits i (inr e) = omega arith
 
-legal : (x p i u t g : ℕ) → x < 2 → p < 2 → (i ≡ 5) ⊎ (i ≡ 6) → u < 4 → t < 2 ^ 31 → g < 2 ^ 57 → Legal AreaSafety (safetyRecord x p i u t g)
+legal : (x p i u t g : ℕ) → x < 2 → p < 2 → (i ≡ 5) ⊎ (i ≡ 6) → u < 4 → t < 2 ^ 31 → g < 2 ^ 57 → Legal AreaSafety (safety_record x p i u t g)
 legal x p i u t g hx hp hi hu ht hg =
     let vs : List ℕ = t ∷ g ∷ [] in
-    let r = safetyRecord x p i u t g in
-    let class : classOf AreaSafety r.identification ≡ SafetyInformation =
-    ap (classOf AreaSafety) (taken SafetyDetails x p i u vs).identification ∙ (safety-class i hi).1 in
+    let r = safety_record x p i u t g in
+    let class : class_of AreaSafety r.identification ≡ SafetyInformation =
+    ap (class_of AreaSafety) (taken SafetyDetails x p i u vs).identification ∙ (safety-class i hi).1 in
     let body = safety-body AreaSafety r class in
     sound-legal AreaSafety r
     (record {
-      known = ap isUndefined class;
+      known = ap is_undefined class;
       fit = rw body (record-fit SafetyDetails x p i u vs hx hp (three-bits i hi) hu (fit t g ht hg));
-      limits = ap (λ (b : Body). overLimit b r.latitude r.longitude) body;
+      limits = ap (λ (b : Body). over_limit b r.latitude r.longitude) body;
     })
 
 -- the tests of fixed bits and of limits
-untested : (ed : Edition) (q : Marking) (f : List ℕ) → classIn ed (repairBy q f).word ≡ SafetyInformation → refusalBy ed q f ≤ 7
-unfolding refusalBy row layout widths unpack fixedHold
+untested : (ed : Edition) (q : Marking) (f : List ℕ) → class_in ed (repair_by q f).word ≡ SafetyInformation → refusal_by ed q f ≤ 7
+unfolding refusal_by row layout widths unpack fixed_hold
 untested ed q f e =
-    let c = (repairBy q f).word in
-    let b : bodyIn ed c ≡ SafetyDetails = rw e in
-    let ts = take 7 (frameTests ed q f) in
-    let us = drop 7 (frameTests ed q f) in
-    let r = recordIn ed 0 0 c in
-    let none : firstRefusal us ≡ 0 =
+    let c = (repair_by q f).word in
+    let b : body_in ed c ≡ SafetyDetails = rw e in
+    let ts = take 7 (frame_tests ed q f) in
+    let us = drop 7 (frame_tests ed q f) in
+    let r = record_in ed 0 0 c in
+    let none : first_refusal us ≡ 0 =
     none-refusal us
-    (ap (λ (y : Body). not (fixedBitsHold (layout y) (detailsIn c))) b, (ap (λ (y : Body). overLimit y r.latitude r.longitude) b, tt)) in
-    let all : firstRefusal (ts ++ us) ≡ firstRefusal ts =
-    refusal-append ts us refl ∙ ap (or_else (firstRefusal ts)) none ∙ or-none (firstRefusal ts) in
+    (ap (λ (y : Body). not (fixed_bits_hold (layout y) (details_in c))) b, (ap (λ (y : Body). over_limit y r.latitude r.longitude) b, tt)) in
+    let all : first_refusal (ts ++ us) ≡ first_refusal ts =
+    refusal-append ts us refl ∙ ap (or_else (first_refusal ts)) none ∙ or-none (first_refusal ts) in
     omega (arith, all, refusal-most 7 ts refl)
   where
     or-none : (n : ℕ) → or_else n 0 ≡ n
@@ -100,19 +100,19 @@ untested ed q f e =
         go false q = refl
 
 module _ (ed : Edition) (r : Record) (l : Legal ed r) where
-  nothing-else : classOf ed r.identification ≡ SafetyInformation
-      → SameFields r (safetyRecord r.reference r.pattern r.identification r.update r.time r.region)
-  unfolding row layout gather bodyValues
+  nothing-else : class_of ed r.identification ≡ SafetyInformation
+      → SameFields r (safety_record r.reference r.pattern r.identification r.update r.time r.region)
+  unfolding row layout gather body_values
   nothing-else e =
-      let fits : Fit (fieldWidths SafetyDetails) (fields r) =
-      subst (λ (b : Body). Fit (fieldWidths b) (fields r)) (safety-body ed r e) (legal-sound ed r l).fit in
-      sym (ap fields (body-record SafetyDetails r safety fits) ∙ from_fields noOrigin r)
+      let fits : Fit (field_widths SafetyDetails) (fields r) =
+      subst (λ (b : Body). Fit (field_widths b) (fields r)) (safety-body ed r e) (legal-sound ed r l).fit in
+      sym (ap fields (body-record SafetyDetails r safety fits) ∙ from_fields no_origin r)
 
-  not-elsewhere : classOf ed r.identification ≢ SafetyInformation → r.region ≡ 0
-  unfolding row layout scatter fieldWidths freeWidths
-  not-elsewhere n = go (recordBody ed r) (chosen (classOf ed r.identification) r.page r.kind) (fit_at (fieldWidths (recordBody ed r)) (fields r) (legal-sound ed r l).fit 18)
+  not-elsewhere : class_of ed r.identification ≢ SafetyInformation → r.region ≡ 0
+  unfolding row layout scatter field_widths free_widths
+  not-elsewhere n = go (record_body ed r) (chosen (class_of ed r.identification) r.page r.kind) (fit_at (field_widths (record_body ed r)) (fields r) (legal-sound ed r l).fit 18)
     where
-      go : (b : Body) → Chosen (classOf ed r.identification) r.page r.kind b → r.region < 2 ^ get_or (fieldWidths b) 18 0 → r.region ≡ 0
+      go : (b : Body) → Chosen (class_of ed r.identification) r.page r.kind b → r.region < 2 ^ get_or (field_widths b) 18 0 → r.region ≡ 0
       go AreaPage c h = omega arith
       go PlacePage c h = omega arith
       go CancelPage c h = omega arith

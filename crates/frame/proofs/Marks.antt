@@ -13,26 +13,26 @@ use Rattle.bits.specs.Field.{field_at}
 use Rattle.bits.proofs.Refusal.{refusal-here, refusal-met}
 use Rattle.gf2.specs.Polynomial.{zeros}
 use Rattle.dsc.specs.Repair.{protected, number_of}
-use Rattle.dsc.specs.Marks.{unmarkedIn, Marking, unmarked, marked, whole, repairBy, MarksSized}
+use Rattle.dsc.specs.Marks.{unmarked_in, Marking, unmarked, marked, whole, repair_by, MarksSized}
 use Rattle.dsc.specs.declared.Answer.{Answer}
 use Rattle.dsc.proofs.MarkedAnswers.{whole-frame, marked-whole, marks-short, sized-whole}
 use Rattle.dsc.proofs.DoubtfulMarks.{doubtful-marks}
-use Rattle.sync_pattern.specs.Pattern.{syncOf, syncNumber}
+use Rattle.sync_pattern.specs.Pattern.{sync_of, sync_number}
 use Rattle.sync_pattern.specs.declared.Sync.{Sync}
-use Rattle.frame.specs.Read.{syncBits, syncIn, afterRepair, refusalBy, places_by, judgeBy, read_by, cleanBy, cleanedBy}
+use Rattle.frame.specs.Read.{sync_bits, sync_in, after_repair, refusal_by, places_by, judge_by, read_by, clean_by, cleaned_by}
 use Rattle.frame.specs.Promises.{SameOutside, SameAnswers, MarkedReading}
 use Rattle.frame.specs.declared.Edition.{Edition}
 
 -- a marking under which a frame is not whole gives refusal 1
-pub refused-size : (ed : Edition) (q : Marking) (f : List ℕ) → whole q f ≡ false → refusalBy ed q f ≡ 1
-unfolding refusalBy
+pub refused-size : (ed : Edition) (q : Marking) (f : List ℕ) → whole q f ≡ false → refusal_by ed q f ≡ 1
+unfolding refusal_by
 refused-size ed q f e = refusal-here 1 _ (ap not e)
 
-size-only : (ed : Edition) (q : Marking) (f : List ℕ) → whole q f ≡ true → refusalBy ed q f ≢ 1
-unfolding refusalBy
+size-only : (ed : Edition) (q : Marking) (f : List ℕ) → whole q f ≡ true → refusal_by ed q f ≢ 1
+unfolding refusal_by
 size-only ed q f e z =
     let later : List (ℕ × Bool) =
-    (2, not (eqb (field_at f 204 4) 0)) ∷ (3, not (eqb (syncNumber (syncIn f)) 0)) ∷ (4, not (eqb (number_of (repairBy q f)) 0)) ∷ afterRepair ed (repairBy q f).word in
+    (2, not (eqb (field_at f 204 4) 0)) ∷ (3, not (eqb (sync_number (sync_in f)) 0)) ∷ (4, not (eqb (number_of (repair_by q f)) 0)) ∷ after_repair ed (repair_by q f).word in
     let given : not (whole q f) ≡ true = refusal-met [] later 1 (not (whole q f)) (omega arith) refl refl z in
     true≢false (sym e ∙ not-true (whole q f) given)
 
@@ -44,9 +44,9 @@ not-whole q f n = go (whole q f) refl
     go false e = refl
 
 -- the answers look at the frame and its marks by way of the sizes, the filler, the synchronising bits, the reference and the repair alone
-same-answers : (ed : Edition) (q p : Marking) (f g : List ℕ) → whole q f ≡ whole p g → field_at f 204 4 ≡ field_at g 204 4 → syncIn f ≡ syncIn g
-    → field_at f 0 1 ≡ field_at g 0 1 → repairBy q f ≡ repairBy p g → SameAnswers ed q f ed p g
-unfolding refusalBy places_by judgeBy read_by cleanBy cleanedBy
+same-answers : (ed : Edition) (q p : Marking) (f g : List ℕ) → whole q f ≡ whole p g → field_at f 204 4 ≡ field_at g 204 4 → sync_in f ≡ sync_in g
+    → field_at f 0 1 ≡ field_at g 0 1 → repair_by q f ≡ repair_by p g → SameAnswers ed q f ed p g
+unfolding refusal_by places_by judge_by read_by clean_by cleaned_by
 same-answers ed q p f g w filler sync reference e =
     record { read = λ t. rw (w, filler, sync, reference, e); judged = rw (w, filler, sync, e); cleaned = rw (w, filler, sync, reference, e) }
 
@@ -57,10 +57,10 @@ marks-outside : (ed : Edition) (m n f : List ℕ) → length m ≡ length n → 
 marks-outside ed m n f l e =
     same-answers ed (marked m) (marked n) f f (ap (λ (k : ℕ). eqb (length f) 26 && eqb k 26) l) refl refl refl (doubtful-marks.marks-outside f m n l e)
 
-under-marks : (ed : Edition) (m f g : List ℕ) → length f ≡ length g → SameOutside f g → syncBits f ≡ syncBits g
-    → unmarkedIn (protected m) (protected f) ≡ unmarkedIn (protected m) (protected g) → SameAnswers ed (marked m) f ed (marked m) g
+under-marks : (ed : Edition) (m f g : List ℕ) → length f ≡ length g → SameOutside f g → sync_bits f ≡ sync_bits g
+    → unmarked_in (protected m) (protected f) ≡ unmarked_in (protected m) (protected g) → SameAnswers ed (marked m) f ed (marked m) g
 under-marks ed m f g l o y e =
-    same-answers ed (marked m) (marked m) f g (ap (λ (k : ℕ). eqb k 26 && eqb (length m) 26) l) (ap (λ (b : List Bool). value (take 4 b)) o.filler) (ap syncOf y)
+    same-answers ed (marked m) (marked m) f g (ap (λ (k : ℕ). eqb k 26 && eqb (length m) 26) l) (ap (λ (b : List Bool). value (take 4 b)) o.filler) (ap sync_of y)
     (ap value o.reference) (doubtful-marks.under-marks f g m l e)
 
 pub marked-frames : (ed : Edition) → MarkedReading ed

@@ -14,25 +14,25 @@ use Rattle.bits.proofs.Bits.{value-take-lt, length-bytes, bits-bytes, bits-inj, 
 use Rattle.bits.proofs.Refusal.{refusal-here, refusal-later, refusal-met}
 use Rattle.gf2.specs.Polynomial.{zeros, add}
 use Rattle.gf2.proofs.Sum.{length-add}
-use Rattle.dsc.specs.Code.{CodeWord, weight, dist, parityOf}
-use Rattle.dsc.specs.Repair.{protected, word_bytes, repairedTo, number_of, repairOf}
-use Rattle.dsc.specs.Marks.{Marking, unmarked, whole, repairBy, MarksSized, hitsBy, FewBy}
+use Rattle.dsc.specs.Code.{CodeWord, weight, dist, parity_of}
+use Rattle.dsc.specs.Repair.{protected, word_bytes, repaired_to, number_of, repair_of}
+use Rattle.dsc.specs.Marks.{Marking, unmarked, whole, repair_by, MarksSized, hits_by, FewBy}
 use Rattle.dsc.specs.declared.Answer.{Answer}
 use Rattle.dsc.proofs.Word.{length-word}
 use Rattle.dsc.proofs.Distance.{dist-none, dist_same}
-use Rattle.dsc.proofs.Answers.{length-protected, protected-wordBytes, repair-found}
+use Rattle.dsc.proofs.Answers.{length-protected, protected-word_bytes, repair-found}
 use Rattle.dsc.proofs.MarkedAnswers.{sized-whole, found-by, hits-sent}
-use Rattle.sync_pattern.specs.Pattern.{patternBits, differingFrom, syncNumber, fittingPattern}
+use Rattle.sync_pattern.specs.Pattern.{pattern_bits, differing_from, sync_number, fitting_pattern}
 use Rattle.sync_pattern.specs.Promises.{FarFromBoth, Fitting}
 use Rattle.sync_pattern.specs.declared.Sync.{Sync}
 use Rattle.sync_pattern.proofs.Patterns.{differing-dist, fitting-none}
 use Rattle.sync_pattern.proofs.Promises.{pattern-test}
 use Rattle.frame.specs.Body.{row}
-use Rattle.frame.specs.Fields.{fields, noOrigin, recordFrom, withOrigin, SameFields}
-use Rattle.frame.specs.Read.{identificationIn, bodyIn, valuesIn, recordIn, syncBits, syncIn, afterRepair, refusalBy, places_by, judgeBy, read_by, read_of, readingNumber, readingTuner, readingPlaces, readingDiffering, readingFields, cleanBy, cleanOf}
-use Rattle.frame.specs.Area.{warnedIn}
-use Rattle.frame.specs.Write.{Legal, messageBits, recordRefusal, frame_of, writeNumber, writeOf}
-use Rattle.frame.specs.Promises.{HitFrame, hitFrame, Mended, ComesBack, Told, Demand2, Origins, SameRecords, AreasOnAir, BitNumbers}
+use Rattle.frame.specs.Fields.{fields, no_origin, record_from, with_origin, SameFields}
+use Rattle.frame.specs.Read.{identification_in, body_in, values_in, record_in, sync_bits, sync_in, after_repair, refusal_by, places_by, judge_by, read_by, read_of, reading_number, reading_tuner, reading_places, reading_differing, reading_fields, clean_by, clean_of}
+use Rattle.frame.specs.Area.{warned_in}
+use Rattle.frame.specs.Write.{Legal, message_bits, record_refusal, frame_of, write_number, write_of}
+use Rattle.frame.specs.Promises.{HitFrame, hit_frame, Mended, ComesBack, Told, Demand2, Origins, SameRecords, AreasOnAir, BitNumbers}
 use Rattle.frame.specs.declared.Edition.{Edition}
 use Rattle.frame.specs.declared.Record.{Record}
 use Rattle.frame.specs.declared.Tuner.{Tuner}
@@ -50,14 +50,14 @@ use Rattle.frame.proofs.Readings.{Judged, accepted-judged, judged-accepted, judg
 
 -- ---- what is told
 
-told-as : (a b : Reading) → a ≡ b → Told a (readingNumber b) (readingTuner b) (readingPlaces b) (readingDiffering b) (readingFields b)
+told-as : (a b : Reading) → a ≡ b → Told a (reading_number b) (reading_tuner b) (reading_places b) (reading_differing b) (reading_fields b)
 told-as a b e =
     record {
-      by_number = ap readingNumber e;
-      by-tuner = ap readingTuner e;
-      by-places = ap readingPlaces e;
-      by-differing = ap readingDiffering e;
-      by-fields = ap readingFields e;
+      by_number = ap reading_number e;
+      by-tuner = ap reading_tuner e;
+      by-places = ap reading_places e;
+      by-differing = ap reading_differing e;
+      by-fields = ap reading_fields e;
     }
 
 -- what comes back is told
@@ -73,11 +73,11 @@ told_back r t m n a c =
     }
 
 -- a reading of the record from another origin
-back_from : (r : Record) (t : Tuner) (m n : ℕ) (a : Reading) → a ≡ Accepted (withOrigin (record { tuner = t; repaired = m }) r) n → ComesBack r t m n a
+back_from : (r : Record) (t : Tuner) (m n : ℕ) (a : Reading) → a ≡ Accepted (with_origin (record { tuner = t; repaired = m }) r) n → ComesBack r t m n a
 back_from r t m n a e =
     let o : Origin = record { tuner = t; repaired = m } in
     record {
-      back = withOrigin o r;
+      back = with_origin o r;
       accepted = e;
       same = sym (from_fields o r);
       tuner = ap (λ (p : Origin). p.tuner) (from-origin o r);
@@ -89,7 +89,7 @@ back_from r t m n a e =
 module _ (ed : Edition) (q : Marking) where
   -- a frame that has what stands outside the word of a legal record's frame, m bits of the pattern apart, and whose word is repaired to that record's
   read-record : (t : Tuner) (r : Record) (f : List ℕ) (m n : ℕ) → Legal ed r → whole q f ≡ true → Outside r m f
-      → n ≡ hitsBy q (add (protected f) (word_of ed r)) → FewBy q n → ComesBack r t n m (read_by ed q t f)
+      → n ≡ hits_by q (add (protected f) (word_of ed r)) → FewBy q n → ComesBack r t n m (read_by ed q t f)
   read-record t r f m n l h o e d =
       let fit = (legal-sound ed r l).fit in
       let origin : Origin = record { tuner = t; repaired = n } in
@@ -105,36 +105,36 @@ module _ (ed : Edition) (q : Marking) where
         code-word = record-word ed r;
         counted = e;
         few = d;
-        repaired = found-by q f h (word_of ed r) (record-word ed r) (subst (FewBy q) e d) ∙ ap (repairedTo (word_of ed r)) (sym e);
+        repaired = found-by q f h (word_of ed r) (record-word ed r) (subst (FewBy q) e d) ∙ ap (repaired_to (word_of ed r)) (sym e);
         tests = found-accepted ed r l;
       } in
       back_from r t n m (read_by ed q t f)
       (judged-read ed q f j t
-      ∙ ap (λ (x : ℕ). Accepted (withOrigin origin (recordIn ed x r.pattern (word_bytes (word_of ed r)))) m) o.reference
-      ∙ ap (λ (y : Record). Accepted (withOrigin origin y) m) (found-record ed r fit)
-      ∙ ap (λ (y : Record). Accepted y m) (from-again origin noOrigin r))
+      ∙ ap (λ (x : ℕ). Accepted (with_origin origin (record_in ed x r.pattern (word_bytes (word_of ed r)))) m) o.reference
+      ∙ ap (λ (y : Record). Accepted (with_origin origin y) m) (found-record ed r fit)
+      ∙ ap (λ (y : Record). Accepted y m) (from-again origin no_origin r))
 
   hit-comes-back : (t : Tuner) (r : Record) (s e : List Bool) (f : List ℕ) → Legal ed r → HitFrame ed q r s e f
-      → ComesBack r t (hitsBy q e) (weight s) (read_by ed q t f)
+      → ComesBack r t (hits_by q e) (weight s) (read_by ed q t f)
   hit-comes-back t r s e f l h =
       let w = h.word in
-      read-record t r f (weight s) (hitsBy q e) l (sized-whole q f h.size h.marks-size) (outside ed r (legal-sound ed r l).fit f s h.outside h.sync)
+      read-record t r f (weight s) (hits_by q e) l (sized-whole q f h.size h.marks-size) (outside ed r (legal-sound ed r l).fit f s h.outside h.sync)
       (sym (hits-sent q f (word_of ed r) e (record-word ed r) w.places (w.hit ∙ ap (add e) (parts-frame ed r).word))) w.few
 
 module _ (ed : Edition) where
-  hit-some : (q : Marking) (r : Record) (s e : List Bool) → MarksSized q → length s ≡ 16 → weight s ≤ 3 → length e ≡ 187 → FewBy q (hitsBy q e)
-      → HitFrame ed q r s e (hitFrame ed r s e)
-  unfolding hitFrame
+  hit-some : (q : Marking) (r : Record) (s e : List Bool) → MarksSized q → length s ≡ 16 → weight s ≤ 3 → length e ≡ 187 → FewBy q (hits_by q e)
+      → HitFrame ed q r s e (hit_frame ed r s e)
+  unfolding hit_frame
   hit-some q r s e hm ns ks ne ke =
       let g = frame_of ed r in
-      let f = hitFrame ed r s e in
+      let f = hit_frame ed r s e in
       let x = take 1 (bits g) in
-      let y = add s (syncBits g) in
+      let y = add s (sync_bits g) in
       let w = add e (protected g) in
       let z = drop 204 (bits g) in
       let lg : length (bits g) ≡ 208 = frame-bits g (length-frame ed r) in
       let lx : length x ≡ 1 = length_part 0 1 (bits g) (omega arith) in
-      let ly : length y ≡ 16 = length-add s (syncBits g) ∙ length_part 1 16 (bits g) (omega arith) in
+      let ly : length y ≡ 16 = length-add s (sync_bits g) ∙ length_part 1 16 (bits g) (omega arith) in
       let lw : length w ≡ 187 = length-add e (protected g) ∙ length-protected g (length-frame ed r) in
       let b : bits f ≡ x ++ (y ++ (w ++ z)) =
       bits-bytes 26 (x ++ (y ++ (w ++ z)))
@@ -153,10 +153,10 @@ module _ (ed : Edition) where
   own-dist : (r : Record) → dist (protected (frame_of ed r)) (word_of ed r) ≡ 0
   own-dist r = ap (λ (w : List Bool). dist w (word_of ed r)) (parts-frame ed r).word ∙ dist_same (word_of ed r)
 
-  pub repair-own : (r : Record) → repairOf (frame_of ed r) ≡ repairedTo (word_of ed r) 0
+  pub repair-own : (r : Record) → repair_of (frame_of ed r) ≡ repaired_to (word_of ed r) 0
   repair-own r =
       repair-found (frame_of ed r) (length-frame ed r) (word_of ed r) (record-word ed r) (omega (arith, own-dist r))
-      ∙ ap (repairedTo (word_of ed r)) (own-dist r)
+      ∙ ap (repaired_to (word_of ed r)) (own-dist r)
 
   pub comes_back : (t : Tuner) (r : Record) → Legal ed r → ComesBack r t 0 0 (read_of ed t (frame_of ed r))
   comes_back t r l =
@@ -167,7 +167,7 @@ module _ (ed : Edition) where
   written_apart r s lr ls e =
       let a = comes_back None r lr in
       let b = comes_back None s ls in
-      a.same ∙ ap readingFields (sym a.accepted ∙ ap (read_of ed None) e ∙ b.accepted) ∙ sym b.same
+      a.same ∙ ap reading_fields (sym a.accepted ∙ ap (read_of ed None) e ∙ b.accepted) ∙ sym b.same
 
 -- ---- read and written
 
@@ -175,10 +175,10 @@ module _ (ed : Edition) (q : Marking) where
   module _ (f : List ℕ) (j : Judged ed q f) where
     -- what the frame says
     recorded : Record
-    recorded = recordIn ed (field_at f 0 1) j.pattern (word_bytes j.word)
+    recorded = record_in ed (field_at f 0 1) j.pattern (word_bytes j.word)
 
-    recorded_sync : Fitting (syncBits f) j.pattern j.differing
-    recorded_sync = pattern-test.fits-only (syncBits f) j.pattern j.differing j.sync
+    recorded_sync : Fitting (sync_bits f) j.pattern j.differing
+    recorded_sync = pattern-test.fits-only (sync_bits f) j.pattern j.differing j.sync
 
     recorded-legal : Legal ed recorded
     unfolding recorded
@@ -193,20 +193,20 @@ module _ (ed : Edition) (q : Marking) where
     unfolding recorded
     recorded-taken =
         let c = word_bytes j.word in
-        let y = taken (bodyIn ed c) (field_at f 0 1) j.pattern (identificationIn c) (field_at c 19 2) (valuesIn ed c) in
+        let y = taken (body_in ed c) (field_at f 0 1) j.pattern (identification_in c) (field_at c 19 2) (values_in ed c) in
         (y.reference, y.pattern)
 
-    recorded-frame : frame_of ed recorded ≡ cleanBy q f
-    unfolding frame_of cleanBy
+    recorded-frame : frame_of ed recorded ≡ clean_by q f
+    unfolding frame_of clean_by
     recorded-frame =
-        let m = messageBits ed recorded in
-        let p = parityOf m in
-        let w : word_of ed recorded ≡ protected (repairBy q f).word =
+        let m = message_bits ed recorded in
+        let p = parity_of m in
+        let w : word_of ed recorded ≡ protected (repair_by q f).word =
         recorded-word
-        ∙ sym (ap (λ (a : Answer). protected a.word) j.repaired ∙ protected-wordBytes j.word (length-word j.word j.code-word)) in
-        ap₂ (λ (x y : ℕ). bytes 26 (bits_of 1 x ++ (patternBits y ++ (m ++ (p ++ zeros 4))))) recorded-taken.0
-        (recorded-taken.1 ∙ sym (ap fittingPattern j.sync))
-        ∙ ap (λ (l : List Bool). bytes 26 (bits_of 1 (field_at f 0 1) ++ (patternBits (fittingPattern (syncIn f)) ++ l)))
+        ∙ sym (ap (λ (a : Answer). protected a.word) j.repaired ∙ protected-word_bytes j.word (length-word j.word j.code-word)) in
+        ap₂ (λ (x y : ℕ). bytes 26 (bits_of 1 x ++ (pattern_bits y ++ (m ++ (p ++ zeros 4))))) recorded-taken.0
+        (recorded-taken.1 ∙ sym (ap fitting_pattern j.sync))
+        ∙ ap (λ (l : List Bool). bytes 26 (bits_of 1 (field_at f 0 1) ++ (pattern_bits (fitting_pattern (sync_in f)) ++ l)))
         (sym (append_assoc m p (zeros 4)) ∙ ap (◌++ zeros 4) w)
 
     recorded-mended : Mended q f (frame_of ed recorded) recorded.pattern j.places j.differing
@@ -217,8 +217,8 @@ module _ (ed : Edition) (q : Marking) where
         let lb : length b ≡ 208 = frame-bits f (judged-size ed q f j) in
         let p = parts-frame ed r in
         let y = recorded_sync in
-        let sync : differingFrom j.pattern (syncBits f) ≡ dist (syncBits f) (syncBits (frame_of ed r)) =
-        differing-dist j.pattern (syncBits f) ∙ ap (dist (syncBits f)) (ap patternBits (sym recorded-taken.1) ∙ sym p.pattern) in
+        let sync : differing_from j.pattern (sync_bits f) ≡ dist (sync_bits f) (sync_bits (frame_of ed r)) =
+        differing-dist j.pattern (sync_bits f) ∙ ap (dist (sync_bits f)) (ap pattern_bits (sym recorded-taken.1) ∙ sym p.pattern) in
         let filler : take 4 (drop 204 b) ≡ zeros 4 = sym (part-bits 204 4 b (omega arith)) ∙ ap (bits_of 4) j.filler in
         record {
           size = length-frame ed r;
@@ -231,30 +231,30 @@ module _ (ed : Edition) (q : Marking) where
           by-differing = record { count = y.differing ∙ sync; few = y.few };
           word = subst CodeWord (sym p.word) (record-word ed r);
           by-places =
-              record { count = j.counted ∙ ap (λ (w : List Bool). hitsBy q (add (protected f) w)) (sym (p.word ∙ recorded-word)); few = j.few };
+              record { count = j.counted ∙ ap (λ (w : List Bool). hits_by q (add (protected f) w)) (sym (p.word ∙ recorded-word)); few = j.few };
         }
 
   -- what is known of an accepted frame: r is what it says, from the origin that was told and found
   record Known (t : Tuner) (f : List ℕ) (r : Record) (d : ℕ) : Type 0 where
     judged : Judged ed q f
-    is : withOrigin (record { tuner = t; repaired = judged.places }) (recorded f judged) ≡ r
+    is : with_origin (record { tuner = t; repaired = judged.places }) (recorded f judged) ≡ r
     differing : judged.differing ≡ d
 
-  pub refused-read : (t : Tuner) (f : List ℕ) → refusalBy ed q f ≢ 0 → read_by ed q t f ≡ Refused (refusalBy ed q f)
+  pub refused-read : (t : Tuner) (f : List ℕ) → refusal_by ed q f ≢ 0 → read_by ed q t f ≡ Refused (refusal_by ed q f)
   unfolding read_by
-  refused-read t f n = rw (ne_eqb (refusalBy ed q f) 0 n)
+  refused-read t f n = rw (ne_eqb (refusal_by ed q f) 0 n)
 
   known : (t : Tuner) (f : List ℕ) (r : Record) (d : ℕ) → read_by ed q t f ≡ Accepted r d → Known t f r d
   unfolding recorded
-  known t f r d e = go (eqb (refusalBy ed q f) 0) refl
+  known t f r d e = go (eqb (refusal_by ed q f) 0) refl
     where
-      go : (b : Bool) → eqb (refusalBy ed q f) 0 ≡ b → Known t f r d
+      go : (b : Bool) → eqb (refusal_by ed q f) 0 ≡ b → Known t f r d
       go true y =
-          let j = accepted-judged ed q f (eqb-true (refusalBy ed q f) 0 y) in
+          let j = accepted-judged ed q f (eqb-true (refusal_by ed q f) 0 y) in
           let same = sym (judged-read ed q f j t) ∙ e in
           record { judged = j; is = cc; differing = cc }
       go false y =
-          let same = sym (refused-read t f (eqb-false (refusalBy ed q f) 0 y)) ∙ e in
+          let same = sym (refused-read t f (eqb-false (refusal_by ed q f) 0 y)) ∙ e in
           let z : ◌≡◌ {A = ℕ} 0 1 = cc in absurd (omega arith)
 
   module _ (t : Tuner) (f : List ℕ) (r : Record) (d : ℕ) (e : read_by ed q t f ≡ Accepted r d) where
@@ -269,22 +269,22 @@ module _ (ed : Edition) (q : Marking) where
     read-is-legal : Legal ed r
     read-is-legal = let k = known t f r d e in subst (Legal ed) k.is (from-legal ed _ (recorded f k.judged) (recorded-legal f k.judged))
 
-    written-again : frame_of ed r ≡ cleanBy q f
+    written-again : frame_of ed r ≡ clean_by q f
     written-again =
         let k = known t f r d e in ap (frame_of ed) (sym k.is) ∙ from-frame ed _ (recorded f k.judged) ∙ recorded-frame f k.judged
 
-    mended : Mended q f (cleanBy q f) r.pattern r.origin.repaired d
-    unfolding recordFrom
+    mended : Mended q f (clean_by q f) r.pattern r.origin.repaired d
+    unfolding record_from
     mended =
         let k = known t f r d e in
         let j = k.judged in
         let pattern : (recorded f j).pattern ≡ r.pattern = ap (λ (y : Record). y.pattern) k.is in
-        subst (λ (n : ℕ). Mended q f (cleanBy q f) n r.origin.repaired d) pattern
-        (subst (λ (n : ℕ). Mended q f (cleanBy q f) (recorded f j).pattern n d) (sym read-origin.1)
-        (subst (λ (n : ℕ). Mended q f (cleanBy q f) (recorded f j).pattern j.places n) k.differing
+        subst (λ (n : ℕ). Mended q f (clean_by q f) n r.origin.repaired d) pattern
+        (subst (λ (n : ℕ). Mended q f (clean_by q f) (recorded f j).pattern n d) (sym read-origin.1)
+        (subst (λ (n : ℕ). Mended q f (clean_by q f) (recorded f j).pattern j.places n) k.differing
         (subst (λ (g : List ℕ). Mended q f g (recorded f j).pattern j.places j.differing) (recorded-frame f j) (recorded-mended f j))))
 
-    mended-read : (u : Tuner) → ComesBack r u 0 0 (read_of ed u (cleanBy q f))
+    mended-read : (u : Tuner) → ComesBack r u 0 0 (read_of ed u (clean_by q f))
     mended-read u = subst (λ (g : List ℕ). ComesBack r u 0 0 (read_of ed u g)) written-again (comes_back ed u r read-is-legal)
 
     -- told another tuner
@@ -303,76 +303,76 @@ module _ (ed : Edition) (q : Marking) where
           repaired = b.repaired ∙ sym read-origin.1;
         }
 
-    by_bit : (k : ℕ) → r.identification ≤ 3 → r.page ≡ 0 → k < 56 → warnedIn r k ≡ not (get_or (bits (cleanBy q f)) (56 + k) false)
+    by_bit : (k : ℕ) → r.identification ≤ 3 → r.page ≡ 0 → k < 56 → warned_in r k ≡ not (get_or (bits (clean_by q f)) (56 + k) false)
     by_bit k w p h = warned-on-air ed r w p k h ∙ ap (λ (g : List ℕ). not (get_or (bits g) (56 + k) false)) written-again
 
     -- the record's identification is that of the repaired frame
-    pub read-identification : r.identification ≡ identificationIn (repairBy q f).word
-    unfolding recorded recordFrom
+    pub read-identification : r.identification ≡ identification_in (repair_by q f).word
+    unfolding recorded record_from
     read-identification =
         let k = known t f r d e in
         let j = k.judged in
         let c = word_bytes j.word in
         sym (ap (λ (y : Record). y.identification) k.is)
-        ∙ (taken (bodyIn ed c) (field_at f 0 1) j.pattern (identificationIn c) (field_at c 19 2) (valuesIn ed c)).identification
-        ∙ ap (λ (a : Answer). identificationIn a.word) (sym j.repaired)
+        ∙ (taken (body_in ed c) (field_at f 0 1) j.pattern (identification_in c) (field_at c 19 2) (values_in ed c)).identification
+        ∙ ap (λ (a : Answer). identification_in a.word) (sym j.repaired)
 
-    accepted : refusalBy ed q f ≡ 0
+    accepted : refusal_by ed q f ≡ 0
     accepted = judged-accepted ed q f (known t f r d e).judged
 
-    verdict : judgeBy ed q f ≡ record { number = 0; repaired = r.origin.repaired }
-    unfolding judgeBy
+    verdict : judge_by ed q f ≡ record { number = 0; repaired = r.origin.repaired }
+    unfolding judge_by
     verdict = let n : places_by ed q f ≡ r.origin.repaired = judged-places ed q f (known t f r d e).judged ∙ sym read-origin.1 in rw (accepted, n)
 
   -- ---- refusal 3
 
-  no-pattern : (f : List ℕ) → length f ≡ 26 → MarksSized q → field_at f 204 4 ≡ 0 → FarFromBoth (syncBits f) → refusalBy ed q f ≡ 3
-  unfolding refusalBy
+  no-pattern : (f : List ℕ) → length f ≡ 26 → MarksSized q → field_at f 204 4 ≡ 0 → FarFromBoth (sync_bits f) → refusal_by ed q f ≡ 3
+  unfolding refusal_by
   no-pattern f h hm z far =
       refusal-later 1 _ (ap not (sized-whole q f h hm))
       ∙ refusal-later 2 _ (ap not (eq-eqb (field_at f 204 4) 0 z))
-      ∙ refusal-here 3 _ (ap (λ (y : Sync). not (eqb (syncNumber y) 0)) (pattern-test.neither (syncBits f) far))
+      ∙ refusal-here 3 _ (ap (λ (y : Sync). not (eqb (sync_number y) 0)) (pattern-test.neither (sync_bits f) far))
 
-  no-pattern-only : (f : List ℕ) → refusalBy ed q f ≡ 3 → FarFromBoth (syncBits f)
-  unfolding refusalBy
+  no-pattern-only : (f : List ℕ) → refusal_by ed q f ≡ 3 → FarFromBoth (sync_bits f)
+  unfolding refusal_by
   no-pattern-only f e =
       let first : List (ℕ × Bool) = (1, not (whole q f)) ∷ (2, not (eqb (field_at f 204 4) 0)) ∷ [] in
-      let later : List (ℕ × Bool) = (4, not (eqb (number_of (repairBy q f)) 0)) ∷ afterRepair ed (repairBy q f).word in
-      let n = syncNumber (syncIn f) in
+      let later : List (ℕ × Bool) = (4, not (eqb (number_of (repair_by q f)) 0)) ∷ after_repair ed (repair_by q f).word in
+      let n = sync_number (sync_in f) in
       let given : not (eqb n 0) ≡ true = refusal-met first later 3 (not (eqb n 0)) (omega arith) refl refl e in
-      pattern-test.neither-only (syncBits f) (fitting-none (syncIn f) (eqb-false n 0 (not-true (eqb n 0) given)))
+      pattern-test.neither-only (sync_bits f) (fitting-none (sync_in f) (eqb-false n 0 (not-true (eqb n 0) given)))
 
   -- ---- judged and read
 
-  judged : (t : Tuner) (f : List ℕ) → ((judgeBy ed q f).number ≡ readingNumber (read_by ed q t f)) × ((judgeBy ed q f).repaired ≡ readingPlaces (read_by ed q t f))
-  unfolding judgeBy read_by places_by recordFrom
-  judged t f = go (eqb (refusalBy ed q f) 0) refl
+  judged : (t : Tuner) (f : List ℕ) → ((judge_by ed q f).number ≡ reading_number (read_by ed q t f)) × ((judge_by ed q f).repaired ≡ reading_places (read_by ed q t f))
+  unfolding judge_by read_by places_by record_from
+  judged t f = go (eqb (refusal_by ed q f) 0) refl
     where
-      go : (b : Bool) → eqb (refusalBy ed q f) 0 ≡ b → ((judgeBy ed q f).number ≡ readingNumber (read_by ed q t f)) × ((judgeBy ed q f).repaired ≡ readingPlaces (read_by ed q t f))
-      go true y = rw (eqb-true (refusalBy ed q f) 0 y) (refl, refl)
+      go : (b : Bool) → eqb (refusal_by ed q f) 0 ≡ b → ((judge_by ed q f).number ≡ reading_number (read_by ed q t f)) × ((judge_by ed q f).repaired ≡ reading_places (read_by ed q t f))
+      go true y = rw (eqb-true (refusal_by ed q f) 0 y) (refl, refl)
       go false y = rw y (refl, refl)
 
-  judged-refused : (t : Tuner) (f : List ℕ) (n : ℕ) → read_by ed q t f ≡ Refused n → (n ≢ 0) × (judgeBy ed q f ≡ record { number = n; repaired = 0 })
-  unfolding judgeBy places_by
-  judged-refused t f n e = go (eqb (refusalBy ed q f) 0) refl
+  judged-refused : (t : Tuner) (f : List ℕ) (n : ℕ) → read_by ed q t f ≡ Refused n → (n ≢ 0) × (judge_by ed q f ≡ record { number = n; repaired = 0 })
+  unfolding judge_by places_by
+  judged-refused t f n e = go (eqb (refusal_by ed q f) 0) refl
     where
-      go : (b : Bool) → eqb (refusalBy ed q f) 0 ≡ b → (n ≢ 0) × (judgeBy ed q f ≡ record { number = n; repaired = 0 })
+      go : (b : Bool) → eqb (refusal_by ed q f) 0 ≡ b → (n ≢ 0) × (judge_by ed q f ≡ record { number = n; repaired = 0 })
       go true y =
-          let same = sym (judged-read ed q f (accepted-judged ed q f (eqb-true (refusalBy ed q f) 0 y)) t) ∙ e in
+          let same = sym (judged-read ed q f (accepted-judged ed q f (eqb-true (refusal_by ed q f) 0 y)) t) ∙ e in
           let z : ◌≡◌ {A = ℕ} 0 1 = cc in absurd (omega arith)
       go false y =
-          let ne = eqb-false (refusalBy ed q f) 0 y in
+          let ne = eqb-false (refusal_by ed q f) 0 y in
           let same = sym (refused-read t f ne) ∙ e in
-          let number : refusalBy ed q f ≡ n = cc in
+          let number : refusal_by ed q f ≡ n = cc in
           (λ z. ne (number ∙ z), rw (y, number))
 
-  number-told : (t : Tuner) (f : List ℕ) → readingNumber (read_by ed q t f) ≡ refusalBy ed q f
-  unfolding judgeBy
+  number-told : (t : Tuner) (f : List ℕ) → reading_number (read_by ed q t f) ≡ refusal_by ed q f
+  unfolding judge_by
   number-told t f = sym (judged t f).0
 
   other-refused : (t u : Tuner) (f : List ℕ) (n : ℕ) → read_by ed q t f ≡ Refused n → read_by ed q u f ≡ Refused n
   other-refused t u f n e =
-      let number : refusalBy ed q f ≡ n = sym (number-told t f) ∙ ap readingNumber e in
+      let number : refusal_by ed q f ≡ n = sym (number-told t f) ∙ ap reading_number e in
       refused-read u f (λ z. (judged-refused t f n e).0 (sym number ∙ z)) ∙ ap Refused number
 
 module _ (ed : Edition) where
@@ -383,18 +383,18 @@ module _ (ed : Edition) where
   undamaged : (t : Tuner) (f : List ℕ) (r : Record) → Bytes f → read_of ed t f ≡ Accepted r 0 → r.origin.repaired ≡ 0 → frame_of ed r ≡ f
   undamaged t f r h e none =
       let m = mended ed unmarked t f r 0 e in
-      let g = cleanOf f in
+      let g = clean_of f in
       let lf = judged-size ed unmarked f (known ed unmarked t f r 0 e).judged in
       let lb : length (bits f) ≡ 208 = frame-bits f lf in
       let lc : length (bits g) ≡ 208 = frame-bits g m.size in
-      let s : syncBits g ≡ syncBits f =
-      sym (dist-none (syncBits f) (syncBits g) (length_part 1 16 (bits f) (omega arith) ∙ sym (length_part 1 16 (bits g) (omega arith))) (sym m.by-differing.count)) in
+      let s : sync_bits g ≡ sync_bits f =
+      sym (dist-none (sync_bits f) (sync_bits g) (length_part 1 16 (bits f) (omega arith) ∙ sym (length_part 1 16 (bits g) (omega arith))) (sym m.by-differing.count)) in
       let w : protected g ≡ protected f =
       sym (dist-none (protected f) (protected g) (length-protected f lf ∙ sym (length-protected g m.size)) (sym m.by-places.count ∙ none)) in
       let b : bits g ≡ bits f =
       frame-split g m.size
       ∙ ap₂ (λ (x y : List Bool). x ++ (y ++ (protected g ++ take 4 (drop 204 (bits g))))) m.outside.reference s
-      ∙ ap₂ (λ (x y : List Bool). take 1 (bits f) ++ (syncBits f ++ (x ++ take 4 y))) w m.outside.filler
+      ∙ ap₂ (λ (x y : List Bool). take 1 (bits f) ++ (sync_bits f ++ (x ++ take 4 y))) w m.outside.filler
       ∙ sym (frame-split f lf) in
       written-again ed unmarked t f r 0 e ∙ bits-inj g f (subst Bytes (written-again ed unmarked t f r 0 e) (bytes-frame r)) h (m.size ∙ sym lf) b
 

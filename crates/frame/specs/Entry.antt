@@ -8,18 +8,18 @@ pub data Entry : Type 0 where
   ones : (w : ℕ) → Entry
 
 -- a row of entries as segments, and the fields' indices in its order
-abbrev pub segmentOf : Entry → Segment
-segmentOf (held k w) = field w
-segmentOf (ones w) = fixedOnes w
+abbrev pub segment_of : Entry → Segment
+segment_of (held k w) = field w
+segment_of (ones w) = fixedOnes w
 
-abbrev pub segmentsOf : List Entry → List Segment
-segmentsOf [] = []
-segmentsOf (e ∷ l) = segmentOf e ∷ segmentsOf l
+abbrev pub segments_of : List Entry → List Segment
+segments_of [] = []
+segments_of (e ∷ l) = segment_of e ∷ segments_of l
 
-abbrev pub indicesOf : List Entry → List ℕ
-indicesOf [] = []
-indicesOf (held k w ∷ l) = k ∷ indicesOf l
-indicesOf (ones w ∷ l) = indicesOf l
+abbrev pub indices_of : List Entry → List ℕ
+indices_of [] = []
+indices_of (held k w ∷ l) = k ∷ indices_of l
+indices_of (ones w ∷ l) = indices_of l
 
 -- the fields that stand in the details
 abbrev pub time : Entry

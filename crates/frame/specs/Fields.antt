@@ -1,19 +1,19 @@
 -- A record's fields: as a list, their widths, and the record of a body's values; and its origin, which no rule looks at (document 02, j). Assumes nothing.
 use Rattle.std.specs.Prelude.{◌≡◌, List, [], ◌∷◌, Bool, false, not, ◌||◌, ℕ, ◌-◌, ltb, get_or, set, replicate}
 use Rattle.bits.specs.Layout.{fitb}
-use Rattle.bits.specs.Segment.{freeWidths}
-use Rattle.frame.specs.Identification.{classOf}
+use Rattle.bits.specs.Segment.{free_widths}
+use Rattle.frame.specs.Identification.{class_of}
 use Rattle.frame.specs.declared.Edition.{Edition}
 use Rattle.frame.specs.declared.Body.{Body}
 use Rattle.frame.specs.declared.Body.TheVariants.{AreaPage, PlacePage, CancelPage, SafetyDetails, NoInformation}
-use Rattle.frame.specs.Body.{bodyOf, layout, indices, ownUpdate}
+use Rattle.frame.specs.Body.{body_of, layout, indices, own_update}
 use Rattle.frame.specs.declared.Tuner.TheVariants as tuner
 use Rattle.frame.specs.declared.Origin.{Origin}
 use Rattle.frame.specs.declared.Record.{Record}
 
 -- how many fields of a record stand in its frame
-abbrev pub fieldCount : ℕ
-fieldCount = 19
+abbrev pub field_count : ℕ
+field_count = 19
 
 -- all fields but its origin, which is the tuner and the number of repaired places
 abbrev pub fields : Record → List ℕ
@@ -22,12 +22,12 @@ fields r =
     ∷ r.west ∷ r.longitude ∷ r.depth ∷ r.occurred ∷ r.broadcaster ∷ r.region ∷ []
 
 -- of a record that was read from no frame: no tuner, nothing repaired
-abbrev pub noOrigin : Origin
-noOrigin = record { tuner = tuner.None; repaired = 0 }
+abbrev pub no_origin : Origin
+no_origin = record { tuner = tuner.None; repaired = 0 }
 
 -- the record that has these fields, from that origin
-unfoldable pub recordFrom : Origin → List ℕ → Record
-recordFrom o v =
+unfoldable pub record_from : Origin → List ℕ → Record
+record_from o v =
     record {
       reference = get_or v 0 0;
       pattern = get_or v 1 0;
@@ -52,8 +52,8 @@ recordFrom o v =
     }
 
 -- the record, from another origin
-abbrev pub withOrigin : Origin → Record → Record
-withOrigin o r = recordFrom o (fields r)
+abbrev pub with_origin : Origin → Record → Record
+with_origin o r = record_from o (fields r)
 
 -- two records are the same in all fields but the tuner and the number of repaired places
 abbrev pub SameFields : Record → Record → Type 0
@@ -71,37 +71,37 @@ scatter (k ∷ ks) [] f = f
 scatter (k ∷ ks) (v ∷ vs) f = scatter ks vs (set f k v)
 
 -- a number for each field of the record: those that stand before the details, and 0 for every other
-abbrev pub beforeDetails : Body → (reference pattern identification update : ℕ) → List ℕ
-beforeDetails b x p i u = x ∷ p ∷ i ∷ ownUpdate b u ∷ replicate (fieldCount - 4) 0
+abbrev pub before_details : Body → (reference pattern identification update : ℕ) → List ℕ
+before_details b x p i u = x ∷ p ∷ i ∷ own_update b u ∷ replicate (field_count - 4) 0
 
 -- and with the numbers us for the fields that the body holds
-abbrev pub inFields : Body → (reference pattern identification update : ℕ) → List ℕ → List ℕ
-inFields b x p i u us = scatter (indices b) us (beforeDetails b x p i u)
+abbrev pub in_fields : Body → (reference pattern identification update : ℕ) → List ℕ → List ℕ
+in_fields b x p i u us = scatter (indices b) us (before_details b x p i u)
 
 -- how many bits each field has in a body; 0 where the identification, page and kind do not leave it free
-unfoldable pub fieldWidths : Body → List ℕ
-fieldWidths b = inFields b 1 1 3 2 (freeWidths (layout b))
+unfoldable pub field_widths : Body → List ℕ
+field_widths b = in_fields b 1 1 3 2 (free_widths (layout b))
 
 -- what a record puts into the fields of a body
-unfoldable pub bodyValues : Body → Record → List ℕ
-bodyValues b r = gather (indices b) (fields r)
+unfoldable pub body_values : Body → Record → List ℕ
+body_values b r = gather (indices b) (fields r)
 
 -- the record of the values us that stand in a body's fields, with the reference, the pattern, the identification and the update; it has no origin yet
-unfoldable pub recordOf : Body → (reference pattern identification update : ℕ) → List ℕ → Record
-recordOf b x p i u us = recordFrom noOrigin (inFields b x p i u us)
+unfoldable pub record_of : Body → (reference pattern identification update : ℕ) → List ℕ → Record
+record_of b x p i u us = record_from no_origin (in_fields b x p i u us)
 
 -- the body that a record has, by the edition named
-abbrev pub recordBody : Edition → Record → Body
-recordBody ed r = bodyOf (classOf ed r.identification) r.page r.kind
+abbrev pub record_body : Edition → Record → Body
+record_body ed r = body_of (class_of ed r.identification) r.page r.kind
 
 -- a field is wider than its place, or not 0 where none is left free
-abbrev pub tooWide : Edition → Record → Bool
-tooWide ed r = not (fitb (fieldWidths (recordBody ed r)) (fields r))
+abbrev pub too_wide : Edition → Record → Bool
+too_wide ed r = not (fitb (field_widths (record_body ed r)) (fields r))
 
 -- page 1, kind 0: latitude or longitude is over its limit, in tenths of a degree
-abbrev pub overLimit : Body → (latitude longitude : ℕ) → Bool
-overLimit AreaPage latitude longitude = false
-overLimit PlacePage latitude longitude = ltb 900 latitude || ltb 1800 longitude
-overLimit CancelPage latitude longitude = false
-overLimit SafetyDetails latitude longitude = false
-overLimit NoInformation latitude longitude = false
+abbrev pub over_limit : Body → (latitude longitude : ℕ) → Bool
+over_limit AreaPage latitude longitude = false
+over_limit PlacePage latitude longitude = ltb 900 latitude || ltb 1800 longitude
+over_limit CancelPage latitude longitude = false
+over_limit SafetyDetails latitude longitude = false
+over_limit NoInformation latitude longitude = false

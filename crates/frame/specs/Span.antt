@@ -12,10 +12,10 @@ ones_in [] = 0
 ones_in (held k w ∷ l) = ones_in l
 ones_in (ones w ∷ l) = w + ones_in l
 
-abbrev pub leadingOnes : List Entry → ℕ
-leadingOnes [] = 0
-leadingOnes (held k w ∷ l) = 0
-leadingOnes (ones w ∷ l) = w + leadingOnes l
+abbrev pub leading_ones : List Entry → ℕ
+leading_ones [] = 0
+leading_ones (held k w ∷ l) = 0
+leading_ones (ones w ∷ l) = w + leading_ones l
 
 -- the last of some indices
 abbrev pub last_of : List ℕ → ℕ
@@ -29,8 +29,8 @@ span_of b =
     record {
       from = get_or (indices b) 0 0;
       to = suc (last_of (indices b));
-      before = leadingOnes (row b) / 8;
-      after = ones_in (row b) - leadingOnes (row b);
+      before = leading_ones (row b) / 8;
+      after = ones_in (row b) - leading_ones (row b);
     }
 
 -- the elements from index m up to index n

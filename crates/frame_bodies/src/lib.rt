@@ -1,15 +1,15 @@
 // The table of the bodies: how many bits each field of the record has in each, and where they stand. The fields of every body stand in the order of the
 // record, with bits fixed at 1 before and after them, so the widths tell where each stands.
 ghost use Rattle.std.specs.Prelude.{◌≡◌};
-ghost use Rattle.frame.specs.Body.{ownUpdate};
+ghost use Rattle.frame.specs.Body.{own_update};
 ghost use Rattle.frame.specs.Span.{span_of};
-ghost use Rattle.frame.specs.Fields.{fieldWidths};
+ghost use Rattle.frame.specs.Fields.{field_widths};
 
 use frame::{Body, FIELDS, Span};
 
 // How many bits each field of the record has in a body: 0 where it is not left free.
 pub fn field_widths(body: Body) -> [usize; FIELDS]
-    ensures { result ≡ fieldWidths body }
+    ensures { result ≡ field_widths body }
 {
     match body {
         Body::AreaPage => [1, 1, 3, 2, 31, 1, 56, 0, 0, 0, 0, 0, 0, 0, 0, 0, 0, 0, 0],
@@ -60,7 +60,7 @@ pub fn span_of(body: Body) -> Span
 
 // The update, and 0 where the body does not leave it free.
 pub fn own_update(body: Body, update: u64) -> u64
-    ensures { result ≡ ownUpdate body update }
+    ensures { result ≡ own_update body update }
 {
     match body {
         Body::AreaPage => update,

@@ -10,20 +10,20 @@ use lib.Seq.{take-add, drop-drop, length-take-le}
 use borrow.Author.Tests.{eqb-true, eqb-false, eq-eqb, ne_eqb}
 use Rattle.bits.specs.Bits.{odd, value, bits_of}
 use Rattle.bits.specs.Layout.{pack, unpack}
-use Rattle.bits.specs.Segment.{widths, freeWidths, fixedHold, free, withFixed, packSegments, unpackSegments, fixedBitsHold}
+use Rattle.bits.specs.Segment.{widths, free_widths, fixed_hold, free, with_fixed, pack_segments, unpack_segments, fixed_bits_hold}
 use Rattle.bits.proofs.Bits.{value-take-lt, value-append}
-use Rattle.frame.specs.Body.{row, layout, ownUpdate}
+use Rattle.frame.specs.Body.{row, layout, own_update}
 use Rattle.frame.specs.Span.{span_of, between}
-use Rattle.frame.specs.Fields.{fields, noOrigin, recordFrom, gather, scatter, fieldWidths, bodyValues, recordOf}
+use Rattle.frame.specs.Fields.{fields, no_origin, record_from, gather, scatter, field_widths, body_values, record_of}
 use Rattle.frame.specs.declared.Body.{Body}
 use Rattle.frame.specs.declared.Body.TheVariants.{AreaPage, PlacePage, CancelPage, SafetyDetails, NoInformation}
 use Rattle.frame.specs.declared.Record.{Record}
-use Rattle.frame_details.specs.Details.{fieldsRead, onesHold}
+use Rattle.frame_details.specs.Details.{fields_read, ones_hold}
 
 -- the record, field by field
 pub record-read : (b : Body) (x p i u : ℕ) (d : List Bool)
-    → recordOf b x p i u (unpackSegments (layout b) d) ≡ recordFrom noOrigin (x ∷ p ∷ i ∷ ownUpdate b u ∷ drop 4 (fieldsRead b d))
-unfolding row layout scatter fieldWidths freeWidths widths free unpack value span_of fieldsRead recordOf
+    → record_of b x p i u (unpack_segments (layout b) d) ≡ record_from no_origin (x ∷ p ∷ i ∷ own_update b u ∷ drop 4 (fields_read b d))
+unfolding row layout scatter field_widths free_widths widths free unpack value span_of fields_read record_of
 record-read AreaPage x p i u d = refl
 record-read PlacePage x p i u d = refl
 record-read CancelPage x p i u d = refl
@@ -33,9 +33,9 @@ record-read NoInformation x p i u d = refl
 -- the bits of a record, after those fixed at 1 and before the others
 pub details-packed : (b : Body) (r : Record) → let s = span_of b in
     bits_of (8 * s.before) (2 ^ (8 * s.before) - 1)
-    ++ (pack (between s.from s.to (fieldWidths b)) (between s.from s.to (fields r)) ++ bits_of s.after (2 ^ s.after - 1))
-    ≡ packSegments (layout b) (bodyValues b r)
-unfolding row layout scatter gather fieldWidths freeWidths widths withFixed pack odd bits_of span_of bodyValues
+    ++ (pack (between s.from s.to (field_widths b)) (between s.from s.to (fields r)) ++ bits_of s.after (2 ^ s.after - 1))
+    ≡ pack_segments (layout b) (body_values b r)
+unfolding row layout scatter gather field_widths free_widths widths with_fixed pack odd bits_of span_of body_values
 details-packed AreaPage r = refl
 details-packed PlacePage r = refl
 details-packed CancelPage r = refl
@@ -66,8 +66,8 @@ after-cancel : (d : List Bool) → drop 1 (drop 9 (drop 1 (drop 1 (drop 1 (drop 
 after-cancel d = simp drop-drop
 
 -- the bits fixed at 1, before the fields and after them
-pub fixed-bits : (b : Body) (d : List Bool) → 88 ≤ length d → fixedBitsHold (layout b) d ≡ onesHold b d
-unfolding row layout widths unpack value fixedHold span_of onesHold
+pub fixed-bits : (b : Body) (d : List Bool) → 88 ≤ length d → fixed_bits_hold (layout b) d ≡ ones_hold b d
+unfolding row layout widths unpack value fixed_hold span_of ones_hold
 fixed-bits AreaPage d e = refl
 fixed-bits PlacePage d e =
     and-true _ ∙ ap (λ (l : List Bool). eqb (value (take 1 l)) 1) (after-place d)

@@ -2,10 +2,10 @@
 // once up to the last field. That the 88 bits are there is required: the callers hand over the part from byte 3 on of 26 bytes.
 ghost use Rattle.std.specs.Prelude.{◌≡◌, ◌++◌, ◌≤◌, length, take, drop};
 ghost use Rattle.bits.specs.Bits.{bits};
-ghost use Rattle.bits.specs.Segment.{packSegments};
+ghost use Rattle.bits.specs.Segment.{pack_segments};
 ghost use Rattle.frame.specs.Body.{layout};
-ghost use Rattle.frame.specs.Fields.{bodyValues};
-ghost use Rattle.frame_details.specs.Details.{fieldsRead, onesHold, onesWritten, detailsOf};
+ghost use Rattle.frame.specs.Fields.{body_values};
+ghost use Rattle.frame_details.specs.Details.{fields_read, ones_hold, ones_written, details_of};
 
 use frame::{Body, FIELDS, Record};
 
@@ -19,7 +19,7 @@ pub struct Details {
 // The body's fields, each at its index, and 0 for every other.
 fn read_fields(body: Body, details: &[u8]) -> [u64; FIELDS]
     requires { 11 ≤ length details.now }
-    ensures { result ≡ fieldsRead body (bits details.now) }
+    ensures { result ≡ fields_read body (bits details.now) }
 {
     let span = frame_bodies::span_of(body);
     let from = span.from;
@@ -34,7 +34,7 @@ fn read_fields(body: Body, details: &[u8]) -> [u64; FIELDS]
 // The bits fixed at 1 are all 1.
 fn ones_hold(body: Body, details: &[u8]) -> bool
     requires { 11 ≤ length details.now }
-    ensures { result ≡ onesHold body (bits details.now) }
+    ensures { result ≡ ones_hold body (bits details.now) }
 {
     let span = frame_bodies::span_of(body);
     let before = 8 * span.before;
@@ -53,7 +53,7 @@ pub fn read_details(
     details: &[u8],
 ) -> Details
     requires { 11 ≤ length details.now }
-    ensures { result ≡ detailsOf body reference pattern identification update (take 88 (bits details.now)) }
+    ensures { result ≡ details_of body reference pattern identification update (take 88 (bits details.now)) }
 {
     let holds = ones_hold(body, details);
     let mut v = read_fields(body, details);
@@ -70,7 +70,7 @@ pub fn read_details(
 // The bits fixed at 1, in the bytes from B24 on; all others stay.
 fn write_ones(body: Body, part: &mut [u8])
     requires { 11 ≤ length part.old }
-    ensures { part.new ≡ onesWritten body part.old }
+    ensures { part.new ≡ ones_written body part.old }
 {
     let span = frame_bodies::span_of(body);
     let before = 8 * span.before;
@@ -82,7 +82,7 @@ fn write_ones(body: Body, part: &mut [u8])
 // The details of a record of that body, in the bytes from B24 on; the bits after them stay.
 pub fn write_details(body: Body, contents: Record, part: &mut [u8])
     requires { 11 ≤ length part.old }
-    ensures { bits part.new ≡ packSegments (layout body) (bodyValues body contents) ++ drop 88 (bits part.old) }
+    ensures { bits part.new ≡ pack_segments (layout body) (body_values body contents) ++ drop 88 (bits part.old) }
 {
     write_ones(body, part);
     let span = frame_bodies::span_of(body);

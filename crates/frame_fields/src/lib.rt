@@ -1,6 +1,6 @@
 // A record, the list of its fields, and its origin.
 ghost use Rattle.std.specs.Prelude.{◌≡◌, length};
-ghost use Rattle.frame.specs.Fields.{fieldCount, fields, noOrigin, recordFrom};
+ghost use Rattle.frame.specs.Fields.{field_count, fields, no_origin, record_from};
 
 use frame::{FIELDS, Origin, Record, Tuner};
 
@@ -33,7 +33,7 @@ pub fn fields_of(contents: Record) -> [u64; FIELDS]
 
 // The origin of a record that was read from no frame.
 pub fn no_origin() -> Origin
-    ensures { result ≡ noOrigin }
+    ensures { result ≡ no_origin }
 {
     Origin {
         tuner: Tuner::None,
@@ -43,8 +43,8 @@ pub fn no_origin() -> Origin
 
 // The record that has these fields, from that origin. It requires that there are as many as a record has: its callers have tested that, or lend an array.
 pub fn record_of(origin: Origin, v: &[u64]) -> Record
-    requires { length v.now ≡ fieldCount }
-    ensures { result ≡ recordFrom origin v.now }
+    requires { length v.now ≡ field_count }
+    ensures { result ≡ record_from origin v.now }
 {
     Record {
         reference: v[0],

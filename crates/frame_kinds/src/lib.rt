@@ -1,9 +1,9 @@
 // What an identification announces by the edition named, which body the details have, and which areas a record warns.
 ghost use Rattle.std.specs.Prelude.{◌≡◌};
-ghost use Rattle.frame.specs.Identification.{schedule1, classOf, flagsWrong, isUndefined};
-ghost use Rattle.frame.specs.Body.{bodyOf};
-ghost use Rattle.frame.specs.Fields.{overLimit};
-ghost use Rattle.frame.specs.Area.{warnedIn};
+ghost use Rattle.frame.specs.Identification.{schedule1, class_of, flags_wrong, is_undefined};
+ghost use Rattle.frame.specs.Body.{body_of};
+ghost use Rattle.frame.specs.Fields.{over_limit};
+ghost use Rattle.frame.specs.Area.{warned_in};
 
 use frame::{Body, Class, Edition, Record};
 
@@ -21,7 +21,7 @@ fn schedule1(identification: u64) -> Class
 }
 
 pub fn class_of(edition: Edition, identification: u64) -> Class
-    ensures { result ≡ classOf edition identification }
+    ensures { result ≡ class_of edition identification }
 {
     match edition {
         Edition::First => schedule1(identification),
@@ -38,7 +38,7 @@ pub fn class_of(edition: Edition, identification: u64) -> Class
 }
 
 pub fn body_of(class: Class, page: u64, kind: u64) -> Body
-    ensures { result ≡ bodyOf class page kind }
+    ensures { result ≡ body_of class page kind }
 {
     match class {
         Class::Warning => {
@@ -57,7 +57,7 @@ pub fn body_of(class: Class, page: u64, kind: u64) -> Body
 }
 
 pub fn is_undefined(class: Class) -> bool
-    ensures { result ≡ isUndefined class }
+    ensures { result ≡ is_undefined class }
 {
     match class {
         Class::Warning => false,
@@ -69,7 +69,7 @@ pub fn is_undefined(class: Class) -> bool
 
 // Start/end and update are not as the class asks.
 pub fn flags_wrong(class: Class, start: u64, update: u64) -> bool
-    ensures { result ≡ flagsWrong class start update }
+    ensures { result ≡ flags_wrong class start update }
 {
     match class {
         Class::Warning => start != 0,
@@ -86,7 +86,7 @@ pub fn flags_wrong(class: Class, start: u64, update: u64) -> bool
 
 // Latitude or longitude is over its limit, in tenths of a degree.
 pub fn over_limit(body: Body, latitude: u64, longitude: u64) -> bool
-    ensures { result ≡ overLimit body latitude longitude }
+    ensures { result ≡ over_limit body latitude longitude }
 {
     match body {
         Body::AreaPage => false,
@@ -104,7 +104,7 @@ pub fn over_limit(body: Body, latitude: u64, longitude: u64) -> bool
 
 // Area k of a record is warned: 0 means warned.
 pub fn warned(message: Record, area: u64) -> bool
-    ensures { result ≡ warnedIn message area }
+    ensures { result ≡ warned_in message area }
 {
     if 3 < message.identification {
         return false;

@@ -1,8 +1,8 @@
 // Reading a frame by the edition named: the tests in their order, and the record, with the tuner that the reader is told.
 ghost use Rattle.std.specs.Prelude.{◌≡◌};
 ghost use Rattle.dsc.specs.Marks.{unmarked};
-ghost use Rattle.frame.specs.Read.{readingVerdict, read_of, judgeOf, cleanedOf};
-ghost use Rattle.frame_reader.specs.Examined.{examinedRefused, wordExamined, answerExamined, examinedBy, cleanedFrom};
+ghost use Rattle.frame.specs.Read.{reading_verdict, read_of, judge_of, cleaned_of};
+ghost use Rattle.frame_reader.specs.Examined.{examined_refused, word_examined, answer_examined, examined_by, cleaned_from};
 
 use dsc::{Answer, Outcome};
 use frame::{Cleaned, Edition, Origin, Reading, Tuner, Verdict};
@@ -17,7 +17,7 @@ pub struct Examined {
 
 // A refusal, with no word.
 pub fn refused(number: u8) -> Examined
-    ensures { result ≡ examinedRefused number }
+    ensures { result ≡ examined_refused number }
 {
     Examined {
         reading: Reading::Refused(number),
@@ -34,7 +34,7 @@ fn examine_word(
     differing: u8,
     word: [u8; 26],
 ) -> Examined
-    ensures { result ≡ wordExamined edition origin reference pattern differing word }
+    ensures { result ≡ word_examined edition origin reference pattern differing word }
 {
     let details = frame_refusals::word_details(edition, reference, pattern, &word);
     let number = frame_refusals::word_refusal(edition, &word, details);
@@ -58,7 +58,7 @@ pub fn examine_answer(
     differing: u8,
     answer: Answer,
 ) -> Examined
-    ensures { result ≡ answerExamined edition tuner reference pattern differing answer }
+    ensures { result ≡ answer_examined edition tuner reference pattern differing answer }
 {
     let outcome = answer.outcome;
     match outcome {
@@ -74,7 +74,7 @@ pub fn examine_answer(
 
 // Any bytes, tested in the order of the refusals and read.
 fn examine(edition: Edition, tuner: Tuner, frame: &[u8]) -> Examined
-    ensures { result ≡ examinedBy edition unmarked tuner frame.now }
+    ensures { result ≡ examined_by edition unmarked tuner frame.now }
 {
     match frame_refusals::preamble_of(frame) {
         Preamble::Passed(reference, pattern, differing) => {
@@ -87,7 +87,7 @@ fn examine(edition: Edition, tuner: Tuner, frame: &[u8]) -> Examined
 
 // What judging says of a reading: the refusal's number, or 0 with the number of repaired places.
 pub fn verdict_of(reading: Reading) -> Verdict
-    ensures { result ≡ readingVerdict reading }
+    ensures { result ≡ reading_verdict reading }
 {
     match reading {
         Reading::Accepted(contents, _) => Verdict {
@@ -103,7 +103,7 @@ pub fn verdict_of(reading: Reading) -> Verdict
 
 // The frame with its damage repaired, and the pattern's own bits.
 pub fn cleaned_of(examined: Examined) -> Cleaned
-    ensures { result ≡ cleanedFrom examined }
+    ensures { result ≡ cleaned_from examined }
 {
     let reading = examined.reading;
     match reading {
@@ -138,14 +138,14 @@ pub fn read(edition: Edition, tuner: Tuner, frame: &[u8]) -> Reading
 
 // Whether a frame is accepted: the refusal's number, or 0 with the number of its repaired places.
 pub fn judge(edition: Edition, frame: &[u8]) -> Verdict
-    ensures { result ≡ judgeOf edition frame.now }
+    ensures { result ≡ judge_of edition frame.now }
 {
     verdict_of(read(edition, Tuner::None, frame))
 }
 
 // The frame with its damage repaired.
 pub fn clean(edition: Edition, frame: &[u8]) -> Cleaned
-    ensures { result ≡ cleanedOf edition frame.now }
+    ensures { result ≡ cleaned_of edition frame.now }
 {
     cleaned_of(examine(edition, Tuner::None, frame))
 }

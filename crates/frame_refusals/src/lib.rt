@@ -2,11 +2,11 @@
 ghost use Rattle.std.specs.Prelude.{◌≡◌, not, eqb, length, take, drop};
 ghost use Rattle.bits.specs.Bits.{bits};
 ghost use Rattle.bits.specs.Field.{field_at};
-ghost use Rattle.bits.specs.Refusal.{firstRefusal};
-ghost use Rattle.crc.specs.Crc.{crc10Of};
-ghost use Rattle.frame.specs.Read.{bodyIn, afterRepair};
-ghost use Rattle.frame_refusals.specs.Preamble.{preambleOf};
-ghost use Rattle.frame_refusals.specs.Word.{wordDetails, Tells};
+ghost use Rattle.bits.specs.Refusal.{first_refusal};
+ghost use Rattle.crc.specs.Crc.{crc10_of};
+ghost use Rattle.frame.specs.Read.{body_in, after_repair};
+ghost use Rattle.frame_refusals.specs.Preamble.{preamble_of};
+ghost use Rattle.frame_refusals.specs.Word.{word_details, Tells};
 
 use frame::{Body, Edition};
 use frame_details::Details;
@@ -23,7 +23,7 @@ pub enum Preamble {
 
 // The tests before the repair.
 pub fn preamble_of(frame: &[u8]) -> Preamble
-    ensures { result ≡ preambleOf frame.now }
+    ensures { result ≡ preamble_of frame.now }
 {
     if frame.len() != 26 {
         return Preamble::Refused(1);
@@ -42,7 +42,7 @@ pub fn preamble_of(frame: &[u8]) -> Preamble
 // The body of a repaired frame.
 fn word_body(edition: Edition, word: &[u8]) -> Body
     requires { length word.now ≡ 26 }
-    ensures { result ≡ bodyIn edition word.now }
+    ensures { result ≡ body_in edition word.now }
 {
     let announced = frame_kinds::class_of(edition, bit_fields::get(word, 21, 3));
     let page = bit_fields::get(word, 55, 1);
@@ -53,7 +53,7 @@ fn word_body(edition: Edition, word: &[u8]) -> Body
 // The details of a repaired frame. Here and below its 26 bytes are required: the caller has them from the repair.
 pub fn word_details(edition: Edition, reference: u64, pattern: u64, word: &[u8]) -> Details
     requires { length word.now ≡ 26 }
-    ensures { result ≡ wordDetails edition reference pattern word.now }
+    ensures { result ≡ word_details edition reference pattern word.now }
 {
     let body = word_body(edition, word);
     let identification = bit_fields::get(word, 21, 3);
@@ -64,7 +64,7 @@ pub fn word_details(edition: Edition, reference: u64, pattern: u64, word: &[u8])
 // The CRC of a repaired frame is not the one that stands in it.
 fn crc_differs(word: &[u8]) -> bool
     requires { length word.now ≡ 26 }
-    ensures { result ≡ not (eqb (field_at word.now 112 10) (crc10Of (take 91 (drop 21 (bits word.now))))) }
+    ensures { result ≡ not (eqb (field_at word.now 112 10) (crc10_of (take 91 (drop 21 (bits word.now))))) }
 {
     let stands = bit_fields::get(word, 112, 10);
     let crc = crc10::crc10(word, 21, 91);
@@ -74,7 +74,7 @@ fn crc_differs(word: &[u8]) -> bool
 // The tests after the repair: 5 to 9, or 0. The details are required to be those of the word: the caller has read them already.
 pub fn word_refusal(edition: Edition, word: &[u8], details: Details) -> u8
     requires { (length word.now ≡ 26) × Tells edition word.now details }
-    ensures { result ≡ firstRefusal (afterRepair edition word.now) }
+    ensures { result ≡ first_refusal (after_repair edition word.now) }
 {
     if crc_differs(word) {
         return 5;

@@ -6,28 +6,28 @@ use Prim.Native.Nat.{ℕ, zero, suc, ◌+◌, ◌-◌, ◌≤◌}
 use native.Mathlib.Omega.{arith}
 use lib.ListN.{length, replicate, length-append, length-replicate}
 use Rattle.bits.specs.Bits.{digit}
-use Rattle.bits.specs.Refusal.{firstRefusal}
-use Rattle.bits.specs.Segment.{freeWidths}
+use Rattle.bits.specs.Refusal.{first_refusal}
+use Rattle.bits.specs.Segment.{free_widths}
 use Rattle.bits.proofs.Bits.{bytes-Bytes}
 use Rattle.gf2.specs.Polynomial.{zeros}
 use Rattle.dsc.specs.Code.{weight}
 use Rattle.dsc.specs.Marks.{unmarked}
 use Rattle.dsc.proofs.Weight.{weight-zeros, weight-append}
-use Rattle.frame.specs.Identification.{classOf}
+use Rattle.frame.specs.Identification.{class_of}
 use Rattle.frame.specs.Body.{row, layout}
-use Rattle.frame.specs.Fields.{fieldWidths, scatter}
-use Rattle.frame.specs.Write.{Legal, recordRefusal}
-use Rattle.frame.specs.Worked.{areaRecord}
-use Rattle.frame.specs.Promises.{hitFrame}
+use Rattle.frame.specs.Fields.{field_widths, scatter}
+use Rattle.frame.specs.Write.{Legal, record_refusal}
+use Rattle.frame.specs.Worked.{area_record}
+use Rattle.frame.specs.Promises.{hit_frame}
 use Rattle.frame.specs.declared.Edition.{Edition}
 use Rattle.frame.specs.declared.Edition.TheVariants.{First, AreaSafety}
 use Rattle.frame.specs.declared.Tuner.TheVariants.{None}
 use Rattle.frame.proofs.Promises.{demand2}
-use Rattle.frame_verdicts.specs.Promises.{JudgedAs, verdictAccepted}
+use Rattle.frame_verdicts.specs.Promises.{JudgedAs, verdict_accepted}
 
 -- a warning for all areas is legal in every edition
-all-areas : (ed : Edition) → Legal ed (areaRecord 0)
-unfolding recordRefusal firstRefusal areaRecord classOf row layout fieldWidths scatter freeWidths
+all-areas : (ed : Edition) → Legal ed (area_record 0)
+unfolding record_refusal first_refusal area_record class_of row layout field_widths scatter free_widths
 all-areas First = refl
 all-areas AreaSafety = refl
 
@@ -49,11 +49,11 @@ module _ (k : ℕ) (few : k ≤ 8) where
   unfolding hits
   hits-weight = weight-append (replicate k true) (zeros (187 - k)) ∙ omega (arith, weight-ones k, weight-zeros (187 - k))
 
-  pub accepted-some : (ed : Edition) → JudgedAs ed (verdictAccepted k)
-  unfolding hitFrame
+  pub accepted-some : (ed : Edition) → JudgedAs ed (verdict_accepted k)
+  unfolding hit_frame
   accepted-some ed =
-      let r = areaRecord 0 in
-      let f = hitFrame ed r (zeros 16) (hits k) in
+      let r = area_record 0 in
+      let f = hit_frame ed r (zeros 16) (hits k) in
       let hit = (demand2 ed).hit-some unmarked r (zeros 16) (hits k) tt (length-replicate 16 false) (omega (arith, weight-zeros 16)) hits-length (omega (arith, hits-weight)) in
       let back = (demand2 ed).hit-comes-back unmarked None r (zeros 16) (hits k) f (all-areas ed) hit in
       record {
@@ -61,5 +61,5 @@ module _ (k : ℕ) (few : k ≤ 8) where
         all-bytes = bytes-Bytes 26 _;
         judged =
             (demand2 ed).judged-accepted unmarked None f back.back _ back.accepted
-            ∙ ap verdictAccepted (back.repaired ∙ hits-weight);
+            ∙ ap verdict_accepted (back.repaired ∙ hits-weight);
       }

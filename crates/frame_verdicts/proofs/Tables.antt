@@ -3,8 +3,8 @@ use mathlib.Core.List.{List, [], ◌∷◌}
 use Prim.Native.Nat.{ℕ}
 
 -- nine of the generator's places are hit
-unfoldable pub nineHits : List ℕ
-nineHits =
+unfoldable pub nine_hits : List ℕ
+nine_hits =
     0x1A ∷ 0xF7 ∷ 0x00 ∷ 0x00 ∷ 0x00 ∷ 0x00 ∷ 0x00 ∷ 0x00 ∷ 0x00 ∷ 0x00 ∷ 0x00 ∷ 0x00 ∷ 0x00 ∷ 0x00 ∷ 0x00 ∷ 0x43 ∷ 0x08 ∷ 0xC0 ∷ 0x11 ∷ 0x10 ∷ 0x00 ∷ 0x00 ∷ 0x00 ∷ 0x00 ∷ 0x00 ∷ 0x00 ∷ []
 
 -- code words without a hit, refused with 5 to 9: the last bit of the CRC is turned; identification 4; start/end 11 of a warning; B111 of page 1 is 0; latitude 901

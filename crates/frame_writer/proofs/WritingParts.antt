@@ -7,10 +7,10 @@ use native.Mathlib.Omega.{arith}
 use lib.ListN.{length, drop}
 use Rattle.bits.specs.Layout.{pack, sum, Layout, layoutb}
 use Rattle.bits.proofs.Layouts.{length-pack, layoutb-layout}
-use Rattle.bits.proofs.Segment.{length-packSegments}
+use Rattle.bits.proofs.Segment.{length-pack_segments}
 use Rattle.frame.specs.Body.{layout}
-use Rattle.frame.specs.Fields.{bodyValues, recordBody}
-use Rattle.frame_writer.specs.WriterParts.{frontWidths, frontValues, frontBits, detailBits}
+use Rattle.frame.specs.Fields.{body_values, record_body}
+use Rattle.frame_writer.specs.WriterParts.{front_widths, front_values, front_bits, detail_bits}
 use Rattle.frame.specs.declared.Edition.{Edition}
 use Rattle.frame.specs.declared.Record.{Record}
 use Rattle.frame.proofs.Bodies.{layout-sum}
@@ -23,24 +23,24 @@ layout-room ws m n e h =
 
 -- ---- B0 to B23
 
-pub front-layout : (n : ℕ) → 3 ≤ n → Layout frontWidths n
-unfolding frontWidths sum
-front-layout n h = layout-room frontWidths 3 n refl h
+pub front-layout : (n : ℕ) → 3 ≤ n → Layout front_widths n
+unfolding front_widths sum
+front-layout n h = layout-room front_widths 3 n refl h
 
-pub length_front : (ed : Edition) (r : Record) → length (frontBits ed r) ≡ 24
-unfolding frontBits frontWidths sum
-length_front ed r = length-pack frontWidths (frontValues ed r)
+pub length_front : (ed : Edition) (r : Record) → length (front_bits ed r) ≡ 24
+unfolding front_bits front_widths sum
+length_front ed r = length-pack front_widths (front_values ed r)
 
-pub front-count : (ed : Edition) (r : Record) (vs : List ℕ) → vs ≡ frontValues ed r → length vs ≡ 5
-unfolding frontValues
+pub front-count : (ed : Edition) (r : Record) (vs : List ℕ) → vs ≡ front_values ed r → length vs ≡ 5
+unfolding front_values
 front-count ed r vs e = ap length e
 
-pub front-written : (ed : Edition) (r : Record) (vs : List ℕ) (l m : List Bool) → vs ≡ frontValues ed r → m ≡ pack frontWidths vs ++ drop (sum frontWidths) l → m ≡ frontBits ed r ++ drop 24 l
-unfolding frontBits frontWidths sum
-front-written ed r vs l m e p = p ∙ ap (λ v. pack frontWidths v ++ drop 24 l) e
+pub front-written : (ed : Edition) (r : Record) (vs : List ℕ) (l m : List Bool) → vs ≡ front_values ed r → m ≡ pack front_widths vs ++ drop (sum front_widths) l → m ≡ front_bits ed r ++ drop 24 l
+unfolding front_bits front_widths sum
+front-written ed r vs l m e p = p ∙ ap (λ v. pack front_widths v ++ drop 24 l) e
 
 -- ---- B24 to B111
 
-pub length-details : (ed : Edition) (r : Record) → length (detailBits ed r) ≡ 88
-unfolding detailBits
-length-details ed r = length-packSegments (layout (recordBody ed r)) (bodyValues (recordBody ed r) r) ∙ layout-sum (recordBody ed r)
+pub length-details : (ed : Edition) (r : Record) → length (detail_bits ed r) ≡ 88
+unfolding detail_bits
+length-details ed r = length-pack_segments (layout (record_body ed r)) (body_values (record_body ed r) r) ∙ layout-sum (record_body ed r)

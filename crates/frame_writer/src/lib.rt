@@ -1,14 +1,14 @@
 // The writer: the frame of a record, by the edition named.
 ghost use Rattle.std.specs.Prelude.{◌≡◌, ◌++◌, ◌≤◌, length, drop};
 ghost use Rattle.bits.specs.Bits.{bits};
-ghost use Rattle.frame.specs.Identification.{startEndOf, updateOf};
-ghost use Rattle.frame_writer.specs.WriterParts.{frontValues, frontBits, detailBits};
-ghost use Rattle.frame.specs.Write.{frame_of, writeNumber, writeOf};
+ghost use Rattle.frame.specs.Identification.{start_end_of, update_of};
+ghost use Rattle.frame_writer.specs.WriterParts.{front_values, front_bits, detail_bits};
+ghost use Rattle.frame.specs.Write.{frame_of, write_number, write_of};
 
 use frame::{Class, Edition, Record};
 
 fn start_end(class: Class) -> u64
-    ensures { result ≡ startEndOf class }
+    ensures { result ≡ start_end_of class }
 {
     match class {
         Class::Warning => 0,
@@ -19,7 +19,7 @@ fn start_end(class: Class) -> u64
 }
 
 fn update_of(class: Class, update: u64) -> u64
-    ensures { result ≡ updateOf class update }
+    ensures { result ≡ update_of class update }
 {
     match class {
         Class::Warning => update,
@@ -31,7 +31,7 @@ fn update_of(class: Class, update: u64) -> u64
 
 // B0 to B23: reference, pattern, start/end, update, identification.
 fn front_values(edition: Edition, contents: Record) -> [u64; 5]
-    ensures { result ≡ frontValues edition contents }
+    ensures { result ≡ front_values edition contents }
 {
     let class = frame_kinds::class_of(edition, contents.identification);
     [
@@ -46,7 +46,7 @@ fn front_values(edition: Edition, contents: Record) -> [u64; 5]
 // Those values, in their bits; the bits after them stay.
 fn write_front(edition: Edition, contents: Record, frame: &mut [u8])
     requires { 3 ≤ length frame.old }
-    ensures { bits frame.new ≡ frontBits edition contents ++ drop 24 (bits frame.old) }
+    ensures { bits frame.new ≡ front_bits edition contents ++ drop 24 (bits frame.old) }
 {
     let ws = [1, 16, 2, 2, 3];
     let vs = front_values(edition, contents);
@@ -56,7 +56,7 @@ fn write_front(edition: Edition, contents: Record, frame: &mut [u8])
 // The details, in the bytes from B24 on; the bits after them stay.
 fn write_details(edition: Edition, contents: Record, part: &mut [u8])
     requires { 11 ≤ length part.old }
-    ensures { bits part.new ≡ detailBits edition contents ++ drop 88 (bits part.old) }
+    ensures { bits part.new ≡ detail_bits edition contents ++ drop 88 (bits part.old) }
 {
     frame_details::write_details(
         frame_legality::record_body(edition, contents),
@@ -81,8 +81,8 @@ fn write_frame(edition: Edition, contents: Record, frame: &mut [u8])
 
 // Writes the frame of a record into a buffer of 26 bytes, and answers 0; or refuses 1, 6, 10, 9, in that order, and leaves the buffer.
 pub fn write(edition: Edition, contents: Record, buffer: &mut [u8]) -> u8
-    ensures value { result ≡ writeNumber edition contents (length buffer.old) }
-    ensures buffer_after { buffer.new ≡ writeOf edition contents buffer.old }
+    ensures value { result ≡ write_number edition contents (length buffer.old) }
+    ensures buffer_after { buffer.new ≡ write_of edition contents buffer.old }
 {
     if buffer.len() != 26 {
         return 1;

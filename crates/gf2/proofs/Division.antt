@@ -5,7 +5,7 @@ use mathlib.Core.List.{List, [], ◌∷◌, ◌++◌}
 use Prim.Native.Nat.{ℕ, zero, suc, ◌+◌}
 use native.Mathlib.Omega.{arith}
 use lib.ListN.{length, length-append, length-replicate}
-use Rattle.gf2.specs.Polynomial.{◌⊕◌, zeros, add, scale, mul, remainder, quotient, checkBits}
+use Rattle.gf2.specs.Polynomial.{◌⊕◌, zeros, add, scale, mul, remainder, quotient, check_bits}
 use Rattle.gf2.proofs.Sum.{xor-false, length-add, length-scale, scale-cons, scale-xor, add-zeros, add-to-zeros, add_same, add_none, add-self, add_assoc, add-swap, add-append}
 
 -- ---- lengths
@@ -27,8 +27,8 @@ length-quotient g zero w e = refl
 length-quotient g (suc k) [] e = absurd (omega arith)
 length-quotient g (suc k) (b ∷ w) e = ap suc (length-quotient g k (add (scale b g) w) (length-add (scale b g) w ∙ omega arith))
 
-pub length-check : (g m : List Bool) → length (checkBits g m) ≡ length g
-unfolding checkBits
+pub length-check : (g m : List Bool) → length (check_bits g m) ≡ length g
+unfolding check_bits
 length-check g m =
     length-remainder g (length m) (m ++ zeros (length g)) (length-append m (zeros (length g)) ∙ ap (length m +◌) (length-replicate (length g) false))
 
@@ -112,20 +112,20 @@ module _ (g m r : List Bool) (h : length r ≡ length g) where
       (add-append (zeros (length m)) r m (zeros (length g)) (length-replicate (length m) false)
       ∙ ap₂ ◌++◌ (add-zeros (length m) m) (ap (λ n. add r (zeros n)) (sym h) ∙ add-to-zeros r))
 
-  pub remainder-joined : remainder g (length m) (m ++ r) ≡ add r (checkBits g m)
-  unfolding checkBits
+  pub remainder-joined : remainder g (length m) (m ++ r) ≡ add r (check_bits g m)
+  unfolding check_bits
   remainder-joined = ap (remainder g (length m)) joined ∙ remainder-low g (length m) r (m ++ zeros (length g))
 
-  pub check-only : remainder g (length m) (m ++ r) ≡ zeros (length g) → r ≡ checkBits g m
+  pub check-only : remainder g (length m) (m ++ r) ≡ zeros (length g) → r ≡ check_bits g m
   check-only e =
-      add_none r (checkBits g m) (h ∙ sym (length-check g m)) (sym remainder-joined ∙ e ∙ ap zeros (sym (length-check g m)))
+      add_none r (check_bits g m) (h ∙ sym (length-check g m)) (sym remainder-joined ∙ e ∙ ap zeros (sym (length-check g m)))
 
-pub check-word : (g m : List Bool) → remainder g (length m) (m ++ checkBits g m) ≡ zeros (length g)
-check-word g m = remainder-joined g m (checkBits g m) (length-check g m) ∙ add_same (checkBits g m) ∙ ap zeros (length-check g m)
+pub check-word : (g m : List Bool) → remainder g (length m) (m ++ check_bits g m) ≡ zeros (length g)
+check-word g m = remainder-joined g m (check_bits g m) (length-check g m) ∙ add_same (check_bits g m) ∙ ap zeros (length-check g m)
 
 -- the check bits of a sum
-pub check-add : (g u w : List Bool) → length u ≡ length w → checkBits g (add u w) ≡ add (checkBits g u) (checkBits g w)
-unfolding checkBits
+pub check-add : (g u w : List Bool) → length u ≡ length w → check_bits g (add u w) ≡ add (check_bits g u) (check_bits g w)
+unfolding check_bits
 check-add g u w l =
     let z = zeros (length g) in
     let n = length w in
@@ -134,4 +134,4 @@ check-add g u w l =
     let whole : add u w ++ z ≡ add (u ++ z) (w ++ z) = sym (add-append u z w z l ∙ ap (add u w ++◌) (add-zeros (length g) z)) in
     ap₂ (remainder g) (length-add u w) whole
     ∙ remainder-add g n (u ++ z) (w ++ z) (long u l) (long w refl)
-    ∙ ap (λ k. add (remainder g k (u ++ z)) (checkBits g w)) (sym l)
+    ∙ ap (λ k. add (remainder g k (u ++ z)) (check_bits g w)) (sym l)

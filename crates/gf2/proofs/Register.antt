@@ -7,9 +7,9 @@ use native.Mathlib.Nat.{le_of_suc-le-suc, not-suc-le-zero}
 use native.Mathlib.Omega.{arith}
 use lib.ListN.{length, get_or, take, length-append, length-replicate}
 use lib.Seq.{get_or-append_seam, take_at}
-use Rattle.gf2.specs.Polynomial.{◌⊕◌, zeros, add, scale, remainder, checkBits}
+use Rattle.gf2.specs.Polynomial.{◌⊕◌, zeros, add, scale, remainder, check_bits}
 use Rattle.gf2.specs.Register.{step, feed}
-use Rattle.gf2.proofs.Sum.{xor-false, xor_same, xor-none, length-add, length-scale, add-zeros, add-to-zeros, add_assoc, add-append, add-shifted, add-over, add-to-more, getD-add, getD-scale}
+use Rattle.gf2.proofs.Sum.{xor-false, xor_same, xor-none, length-add, length-scale, add-zeros, add-to-zeros, add_assoc, add-append, add-shifted, add-over, add-to-more, get_or-add, get_or-scale}
 use Rattle.gf2.proofs.Division.{remainder-low, check-add}
 
 -- ---- lengths, and rows of bits
@@ -55,8 +55,8 @@ turn-remainder g [] = sym (add-zeros (length g) [])
 turn-remainder g (h ∷ t) = ap (λ b. add (scale b g) (t ++ (false ∷ []))) (xor-false h)
 
 -- from a register of zeros: the check bits
-pub feed-check : (g m : List Bool) → 0 < length g → feed g (zeros (length g)) m ≡ checkBits g m
-unfolding checkBits
+pub feed-check : (g m : List Bool) → 0 < length g → feed g (zeros (length g)) m ≡ check_bits g m
+unfolding check_bits
 feed-check g m h =
     feed-remainder g (zeros (length g)) m (length-replicate (length g) false) h
     ∙ ap (remainder g (length m)) (add-zeros (length g) (m ++ zeros (length g)))
@@ -124,8 +124,8 @@ only g (h ∷ t) (b ∷ x) j n lg lr o lx e =
     let ih : s ≡ x ++ zeros (suc j) = only g s x (suc j) n lg (length-step g (h ∷ t) b ∙ lr) o (omega arith) e in
     let la : length (t ++ (false ∷ [])) ≡ suc n = length-append t (false ∷ []) ∙ omega arith in
     let m : get_or s n false ≡ q =
-    getD-add (scale q g) (t ++ (false ∷ [])) n (omega arith)
-    ∙ ap₂ ◌⊕◌ (getD-scale q g n (omega arith) o) (ap (λ k. get_or (t ++ (false ∷ [])) k false) (sym lt) ∙ get_or-append_seam t false [] false)
+    get_or-add (scale q g) (t ++ (false ∷ [])) n (omega arith)
+    ∙ ap₂ ◌⊕◌ (get_or-scale q g n (omega arith) o) (ap (λ k. get_or (t ++ (false ∷ [])) k false) (sym lt) ∙ get_or-append_seam t false [] false)
     ∙ xor-false q in
     let z : q ≡ false = sym m ∙ ap (λ y. get_or y n false) ih ∙ past x (suc j) n (omega arith) in
     let f : t ++ (false ∷ []) ≡ x ++ zeros (suc j) =
@@ -159,18 +159,18 @@ feed-high g hi lo m n lg h eh el =
     feed-remainder g (hi ++ lo) m lr (omega arith) ∙ ap (remainder g k) (a₁ ∙ sym a₂) ∙ remainder-low g k e (p ++ z) ∙ ap (add e) (sym b)
 
 -- as many bits as the register has, or more: it is added to the first of them
-pub feed-long : (g r m : List Bool) → length r ≡ length g → 0 < length g → length g ≤ length m → feed g r m ≡ checkBits g (add r m)
-unfolding checkBits
+pub feed-long : (g r m : List Bool) → length r ≡ length g → 0 < length g → length g ≤ length m → feed g r m ≡ check_bits g (add r m)
+unfolding check_bits
 feed-long g r m e h l = feed-remainder g r m e h ∙ ap₂ (remainder g) (sym (length-add r m)) (add-over r m (zeros (length g)) (omega arith))
 
 -- zeros before a message leave its check bits as they are
-pub check-after-zeros : (g : List Bool) (k : ℕ) (m : List Bool) → 0 < length g → checkBits g (zeros k ++ m) ≡ checkBits g m
+pub check-after-zeros : (g : List Bool) (k : ℕ) (m : List Bool) → 0 < length g → check_bits g (zeros k ++ m) ≡ check_bits g m
 check-after-zeros g k m h =
     let z = zeros (length g) in
     sym (feed-check g (zeros k ++ m) h) ∙ feed-append g z (zeros k) m ∙ ap (λ r. feed g r m) (feed-zeros g (length g) k) ∙ feed-check g m h
 
 -- the check bits of x and then y: of x with zeros in the place of y, and of y
-pub check-append : (g x y : List Bool) → 0 < length g → checkBits g (x ++ y) ≡ add (checkBits g (x ++ zeros (length y))) (checkBits g y)
+pub check-append : (g x y : List Bool) → 0 < length g → check_bits g (x ++ y) ≡ add (check_bits g (x ++ zeros (length y))) (check_bits g y)
 check-append g x y h =
     let front = x ++ zeros (length y) in
     let back = zeros (length x) ++ y in
@@ -179,6 +179,6 @@ check-append g x y h =
     let parts : add front back ≡ x ++ y =
     add-append x (zeros (length y)) (zeros (length x)) y (sym (length-replicate (length x) false))
     ∙ ap₂ ◌++◌ (add-to-zeros x) (add-zeros (length y) y) in
-    ap (checkBits g) (sym parts)
+    ap (check_bits g) (sym parts)
     ∙ check-add g front back (lf ∙ sym lb)
-    ∙ ap (add (checkBits g front)) (check-after-zeros g (length x) y h)
+    ∙ ap (add (check_bits g front)) (check-after-zeros g (length x) y h)

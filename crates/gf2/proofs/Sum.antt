@@ -153,14 +153,14 @@ add-to-more u k = ap (add u) (sym (replicate-append-replicate (length u) k false
 
 -- ---- by index
 
-pub getD-add : (u w : List Bool) (i : ℕ) → i < length w → get_or (add u w) i false ≡ get_or u i false ⊕ get_or w i false
+pub get_or-add : (u w : List Bool) (i : ℕ) → i < length w → get_or (add u w) i false ≡ get_or u i false ⊕ get_or w i false
 unfolding add
-getD-add [] w i h = refl
-getD-add (a ∷ u) [] i h = absurd (not-suc-le-zero h)
-getD-add (a ∷ u) (b ∷ w) zero h = refl
-getD-add (a ∷ u) (b ∷ w) (suc i) h = getD-add u w i (le_of_suc-le-suc h)
+get_or-add [] w i h = refl
+get_or-add (a ∷ u) [] i h = absurd (not-suc-le-zero h)
+get_or-add (a ∷ u) (b ∷ w) zero h = refl
+get_or-add (a ∷ u) (b ∷ w) (suc i) h = get_or-add u w i (le_of_suc-le-suc h)
 
-pub getD-scale : (b : Bool) (u : List Bool) (i : ℕ) → i < length u → get_or u i false ≡ true → get_or (scale b u) i false ≡ b
+pub get_or-scale : (b : Bool) (u : List Bool) (i : ℕ) → i < length u → get_or u i false ≡ true → get_or (scale b u) i false ≡ b
 unfolding scale
-getD-scale true u i h e = e
-getD-scale false u i h e = get_or-replicate (length u) i false false h
+get_or-scale true u i h e = e
+get_or-scale false u i h e = get_or-replicate (length u) i false false h

@@ -50,5 +50,5 @@ quotient g (suc k) [] = []
 quotient g (suc k) (b ∷ w) = b ∷ quotient g k (add (scale b g) w)
 
 -- the check bits of a message m: what remains of m x^n
-unfoldable pub checkBits : List Bool → List Bool → List Bool
-checkBits g m = remainder g (length m) (m ++ zeros (length g))
+unfoldable pub check_bits : List Bool → List Bool → List Bool
+check_bits g m = remainder g (length m) (m ++ zeros (length g))

@@ -5,26 +5,26 @@ use mathlib.Core.List.{List, [], ◌∷◌}
 use Prim.Native.Nat.{ℕ}
 use Rattle.gf2.specs.Polynomial.{add, scale, remainder}
 use Rattle.bits.specs.Bits.{digit, odd, value, bits_of, bits, bytes}
-use Rattle.bits.specs.Segment.{freeWidths}
-use Rattle.bits.specs.Refusal.{firstRefusal, testNumbers}
+use Rattle.bits.specs.Segment.{free_widths}
+use Rattle.bits.specs.Refusal.{first_refusal, test_numbers}
 use Rattle.crc.specs.Crc.{crc, crc32}
-use Rattle.header.specs.Layout.{frontLayout, extensionLayout}
-use Rattle.header.specs.Fields.{pairs, frontFields, extensionFields, Sized}
+use Rattle.header.specs.Layout.{front_layout, extension_layout}
+use Rattle.header.specs.Fields.{pairs, front_fields, extension_fields, Sized}
 use Rattle.gf2.specs.Polynomial.{member}
-use Rattle.header.specs.Tests.{tooWide}
-use Rattle.header.specs.Header.{headerTests, sealed, recordTests, recordRefusal}
+use Rattle.header.specs.Tests.{too_wide}
+use Rattle.header.specs.Header.{header_tests, sealed, record_tests, record_refusal}
 use Rattle.header.specs.Worked.{sample}
 use Rattle.header.specs.declared.Header.{Header}
 
-pub header-order : (h : List ℕ) → testNumbers (headerTests h) ≡ 1 ∷ 12 ∷ 13 ∷ 14 ∷ 15 ∷ []
+pub header-order : (h : List ℕ) → test_numbers (header_tests h) ≡ 1 ∷ 12 ∷ 13 ∷ 14 ∷ 15 ∷ []
 header-order h = refl
 
-pub record-order : (r : Header) → testNumbers (recordTests r) ≡ 10 ∷ 12 ∷ 14 ∷ 15 ∷ []
+pub record-order : (r : Header) → test_numbers (record_tests r) ≡ 10 ∷ 12 ∷ 14 ∷ 15 ∷ []
 record-order r = refl
 
 -- a sample whose fields fit, and what it is refused for
 abbrev pub Found : (packet form state number : ℕ) → Type 0
-Found p n s number = (tooWide (sample p n s) ≡ false) × (recordRefusal (sample p n s) ≡ number)
+Found p n s number = (too_wide (sample p n s) ≡ false) × (record_refusal (sample p n s) ≡ number)
 
 pub record Refusals : Type 0 where
   pub legal : Found 0x47000000 1 0 0
@@ -32,11 +32,11 @@ pub record Refusals : Type 0 where
   pub state : Found 0x47000000 1 3 15
   pub packet-sync-first : Found 0x46000000 2 3 12
   pub form-first : Found 0x47000000 2 3 14
-  pub state-wide : recordRefusal (sample 0x47000000 1 4) ≡ 10
-  pub form-wide : recordRefusal (sample 0x47000000 16 0) ≡ 10
+  pub state-wide : record_refusal (sample 0x47000000 1 4) ≡ 10
+  pub form-wide : record_refusal (sample 0x47000000 16 0) ≡ 10
 
 pub refusals : Refusals
-unfolding sample recordRefusal firstRefusal tooWide member freeWidths frontLayout extensionLayout pairs frontFields extensionFields
+unfolding sample record_refusal first_refusal too_wide member free_widths front_layout extension_layout pairs front_fields extension_fields
 refusals =
     record {
       legal = (refl, refl);

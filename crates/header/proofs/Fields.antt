@@ -5,29 +5,29 @@ use Prim.Native.Nat.{ℕ, zero, suc, ◌+◌}
 use native.Mathlib.Omega.{arith}
 use lib.ListN.{length, get_or}
 use Rattle.bits.specs.Layout.{sum}
-use Rattle.bits.specs.Segment.{widths, freeWidths}
-use Rattle.header.specs.Layout.{frontLayout, extensionLayout}
-use Rattle.header.specs.Fields.{run, pairs, frontFields, frontOf, extensionFields, extensionOf, Sized}
+use Rattle.bits.specs.Segment.{widths, free_widths}
+use Rattle.header.specs.Layout.{front_layout, extension_layout}
+use Rattle.header.specs.Fields.{run, pairs, front_fields, front_of, extension_fields, extension_of, Sized}
 use Rattle.header.specs.declared.Front.{Front}
 use Rattle.header.specs.declared.Header.{Header}
 
 -- ---- the layout
 
 -- 99 bytes and 119 fields, 85 bytes and 26 fields
-pub front-bits : sum (widths frontLayout) ≡ 792
-unfolding frontLayout widths sum
+pub front-bits : sum (widths front_layout) ≡ 792
+unfolding front_layout widths sum
 front-bits = refl
 
-pub extension-bits : sum (widths extensionLayout) ≡ 680
-unfolding extensionLayout widths sum
+pub extension-bits : sum (widths extension_layout) ≡ 680
+unfolding extension_layout widths sum
 extension-bits = refl
 
-pub front-count : length (freeWidths frontLayout) ≡ 119
-unfolding frontLayout freeWidths
+pub front-count : length (free_widths front_layout) ≡ 119
+unfolding front_layout free_widths
 front-count = refl
 
-pub extension-count : length (freeWidths extensionLayout) ≡ 26
-unfolding extensionLayout freeWidths
+pub extension-count : length (free_widths extension_layout) ≡ 26
+unfolding extension_layout free_widths
 extension-count = refl
 
 -- ---- runs of values
@@ -55,18 +55,18 @@ run-all (x ∷ v) (suc n) e = ap (x ∷◌) (run-cons x v 0 n ∙ run-all v n (o
 -- ---- the values of a header that was made of them
 
 -- the fields stand in the layout's order: value 20 is the first stream id, value 21 its network's, value 67 slot 2
-front-order : (v : List ℕ) → frontFields (frontOf v) ≡ run v 0 1 119
-unfolding frontFields frontOf pairs run
+front-order : (v : List ℕ) → front_fields (front_of v) ≡ run v 0 1 119
+unfolding front_fields front_of pairs run
 front-order v = refl
 
-extension-order : (v : List ℕ) → extensionFields (extensionOf v) ≡ run v 0 1 26
-unfolding extensionFields extensionOf
+extension-order : (v : List ℕ) → extension_fields (extension_of v) ≡ run v 0 1 26
+unfolding extension_fields extension_of
 extension-order v = refl
 
-pub fields-front : (v : List ℕ) → length v ≡ 119 → frontFields (frontOf v) ≡ v
+pub fields-front : (v : List ℕ) → length v ≡ 119 → front_fields (front_of v) ≡ v
 fields-front v l = front-order v ∙ run-all v 119 l
 
-pub fields-extension : (v : List ℕ) → length v ≡ 26 → extensionFields (extensionOf v) ≡ v
+pub fields-extension : (v : List ℕ) → length v ≡ 26 → extension_fields (extension_of v) ≡ v
 fields-extension v l = extension-order v ∙ run-all v 26 l
 
 -- ---- the header of its own fields
@@ -89,8 +89,8 @@ listed f =
       slots = run f.slots 0 1 52;
     }
 
-front-listed : (f : Front) → frontOf (frontFields (listed f)) ≡ listed f
-unfolding frontFields frontOf pairs run listed
+front-listed : (f : Front) → front_of (front_fields (listed f)) ≡ listed f
+unfolding front_fields front_of pairs run listed
 front-listed f = refl
 
 listed-own : (r : Header) → Sized r → listed r.front ≡ r.front
@@ -104,16 +104,16 @@ listed-own r s =
       run-all r.front.slots 52 s.slots,
     )
 
-pub front-fields : (r : Header) → Sized r → frontOf (frontFields r.front) ≡ r.front
-front-fields r s = let e = listed-own r s in ap (λ (f : Front). frontOf (frontFields f)) (sym e) ∙ front-listed r.front ∙ e
+pub front-fields : (r : Header) → Sized r → front_of (front_fields r.front) ≡ r.front
+front-fields r s = let e = listed-own r s in ap (λ (f : Front). front_of (front_fields f)) (sym e) ∙ front-listed r.front ∙ e
 
-pub extension-fields : (r : Header) → Sized r → extensionOf (extensionFields r.extension) ≡ r.extension
-unfolding extensionOf extensionFields
+pub extension-fields : (r : Header) → Sized r → extension_of (extension_fields r.extension) ≡ r.extension
+unfolding extension_of extension_fields
 extension-fields r s = rw (run-all r.extension.ac 26 s.ac)
 
 -- the header that is made of values has arrays of their lengths
-pub sized : (v w : List ℕ) → Sized (record { front = frontOf v; extension = extensionOf w })
-unfolding frontOf extensionOf
+pub sized : (v w : List ℕ) → Sized (record { front = front_of v; extension = extension_of w })
+unfolding front_of extension_of
 sized v w =
     record {
       valid = length_run v _ _ 15;

@@ -9,18 +9,18 @@ use lib.Seq.{length-take-le}
 use borrow.Author.Tests.{eq-eqb, eqb-true, not-false}
 use Rattle.bits.specs.Bits.{bits, bytes, Bytes}
 use Rattle.bits.specs.Layout.{sum, Fit, fitb}
-use Rattle.bits.specs.Segment.{Segment, widths, freeWidths, packSegments, unpackSegments, fixedBitsHold}
-use Rattle.bits.specs.Refusal.{firstRefusal}
+use Rattle.bits.specs.Segment.{Segment, widths, free_widths, pack_segments, unpack_segments, fixed_bits_hold}
+use Rattle.bits.specs.Refusal.{first_refusal}
 use Rattle.bits.proofs.Bits.{length-bytes, bits-bytes}
 use Rattle.bits.proofs.Layouts.{length-fit, fitb-fit, fit-fitb}
-use Rattle.bits.proofs.Segment.{length-packSegments, unpack-bytes-packSegments, bytes-pack-unpackSegments, fixed-packSegments, fit-unpackSegments}
+use Rattle.bits.proofs.Segment.{length-pack_segments, unpack-bytes-pack_segments, bytes-pack-unpack_segments, fixed-pack_segments, fit-unpack_segments}
 use Rattle.bits.proofs.Refusal.{refusal-none, none-refusal, neither}
-use Rattle.crc.specs.Crc.{crc32Of}
-use Rattle.header.specs.Layout.{frontLayout, extensionLayout}
-use Rattle.header.specs.Fields.{frontFields, frontOf, extensionFields, extensionOf, Sized}
+use Rattle.crc.specs.Crc.{crc32_of}
+use Rattle.header.specs.Layout.{front_layout, extension_layout}
+use Rattle.header.specs.Fields.{front_fields, front_of, extension_fields, extension_of, Sized}
 use Rattle.gf2.specs.Polynomial.{member}
-use Rattle.header.specs.Tests.{tooWide, crcWrong, stateWrong, slotBitWrong, extensionWrong}
-use Rattle.header.specs.Header.{frontIn, extensionIn, headerIn, headerTests, headerRefusal, sealed, headerOf, recordTests, recordRefusal, Legal}
+use Rattle.header.specs.Tests.{too_wide, crc_wrong, state_wrong, slot_bit_wrong, extension_wrong}
+use Rattle.header.specs.Header.{front_in, extension_in, header_in, header_tests, header_refusal, sealed, header_of, record_tests, record_refusal, Legal}
 use Rattle.header.specs.declared.Front.{Front}
 use Rattle.header.specs.declared.Extension.{Extension}
 use Rattle.header.specs.declared.Header.{Header}
@@ -32,39 +32,39 @@ use Rattle.header.proofs.Sealed.{Bytes-take, Bytes-drop, length-sealed, sealed-f
 -- a header that no refusal is given to
 pub record Accepted (h : List ℕ) : Type 0 where
   pub size : length h ≡ 188
-  pub packet-sync : (frontIn h).packet / 2 ^ 24 ≡ 0x47
-  pub crc : crc32Of (bits (drop 4 h)) ≡ 0
-  pub form : (frontIn h).form ≡ 1
-  pub slot-bit : fixedBitsHold frontLayout (bits (take 99 h)) ≡ true
-  pub states : member 3 (frontIn h).states ≡ false
-  pub ones : fixedBitsHold extensionLayout (bits (take 85 (drop 99 h))) ≡ true
+  pub packet-sync : (front_in h).packet / 2 ^ 24 ≡ 0x47
+  pub crc : crc32_of (bits (drop 4 h)) ≡ 0
+  pub form : (front_in h).form ≡ 1
+  pub slot-bit : fixed_bits_hold front_layout (bits (take 99 h)) ≡ true
+  pub states : member 3 (front_in h).states ≡ false
+  pub ones : fixed_bits_hold extension_layout (bits (take 85 (drop 99 h))) ≡ true
 
-pub accepted : (h : List ℕ) → headerRefusal h ≡ 0 → Accepted h
-unfolding headerRefusal crcWrong slotBitWrong extensionWrong
+pub accepted : (h : List ℕ) → header_refusal h ≡ 0 → Accepted h
+unfolding header_refusal crc_wrong slot_bit_wrong extension_wrong
 accepted h e =
-    let t = refusal-none (headerTests h) refl e in
+    let t = refusal-none (header_tests h) refl e in
     let bits15 = neither _ _ t.1.1.1.1.0 in
     let rest15 = neither _ _ bits15.1 in
     record {
       size = eqb-true (length h) 188 (not-false _ t.0);
-      packet-sync = eqb-true ((frontIn h).packet / 2 ^ 24) 0x47 (not-false _ t.1.0);
-      crc = eqb-true (crc32Of (bits (drop 4 h))) 0 (not-false _ t.1.1.0);
-      form = eqb-true (frontIn h).form 1 (not-false _ t.1.1.1.0);
+      packet-sync = eqb-true ((front_in h).packet / 2 ^ 24) 0x47 (not-false _ t.1.0);
+      crc = eqb-true (crc32_of (bits (drop 4 h))) 0 (not-false _ t.1.1.0);
+      form = eqb-true (front_in h).form 1 (not-false _ t.1.1.1.0);
       slot-bit = not-false _ bits15.0;
       states = rest15.0;
       ones = not-false _ rest15.1;
     }
 
-pub accepts : (h : List ℕ) → Accepted h → headerRefusal h ≡ 0
-unfolding headerRefusal crcWrong slotBitWrong extensionWrong
+pub accepts : (h : List ℕ) → Accepted h → header_refusal h ≡ 0
+unfolding header_refusal crc_wrong slot_bit_wrong extension_wrong
 accepts h a =
-    none-refusal (headerTests h) (
+    none-refusal (header_tests h) (
       ap not (eq-eqb (length h) 188 a.size),
       (
-        ap not (eq-eqb ((frontIn h).packet / 2 ^ 24) 0x47 a.packet-sync),
+        ap not (eq-eqb ((front_in h).packet / 2 ^ 24) 0x47 a.packet-sync),
         (
-          ap not (eq-eqb (crc32Of (bits (drop 4 h))) 0 a.crc),
-          (ap not (eq-eqb (frontIn h).form 1 a.form), (rw (a.slot-bit, a.states, a.ones), tt)),
+          ap not (eq-eqb (crc32_of (bits (drop 4 h))) 0 a.crc),
+          (ap not (eq-eqb (front_in h).form 1 a.form), (rw (a.slot-bit, a.states, a.ones), tt)),
         ),
       ),
     )
@@ -72,144 +72,144 @@ accepts h a =
 -- ---- headers whose fields fit
 
 record Fits (r : Header) : Type 0 where
-  front : Fit (freeWidths frontLayout) (frontFields r.front)
-  extension : Fit (freeWidths extensionLayout) (extensionFields r.extension)
+  front : Fit (free_widths front_layout) (front_fields r.front)
+  extension : Fit (free_widths extension_layout) (extension_fields r.extension)
 
-fits : (r : Header) → tooWide r ≡ false → Fits r
-unfolding tooWide
+fits : (r : Header) → too_wide r ≡ false → Fits r
+unfolding too_wide
 fits r e =
-    let v = frontFields r.front in
-    let w = extensionFields r.extension in
-    let t = (and-eq-true_iff (fitb (freeWidths frontLayout) v) (fitb (freeWidths extensionLayout) w)).0 (not-false _ e) in
-    record { front = fitb-fit (freeWidths frontLayout) v t.0; extension = fitb-fit (freeWidths extensionLayout) w t.1 }
+    let v = front_fields r.front in
+    let w = extension_fields r.extension in
+    let t = (and-eq-true_iff (fitb (free_widths front_layout) v) (fitb (free_widths extension_layout) w)).0 (not-false _ e) in
+    record { front = fitb-fit (free_widths front_layout) v t.0; extension = fitb-fit (free_widths extension_layout) w t.1 }
 
-pub legal-fits : (r : Header) → Legal r → tooWide r ≡ false
-unfolding recordRefusal
-legal-fits r e = (refusal-none (recordTests r) refl e).0
+pub legal-fits : (r : Header) → Legal r → too_wide r ≡ false
+unfolding record_refusal
+legal-fits r e = (refusal-none (record_tests r) refl e).0
 
 -- ---- one part of a header, 99 or 85 bytes
 
 -- bytes with the fixed bits, read and written
-same_bytes : (l : List Segment) (n : ℕ) (s : List ℕ) → sum (widths l) ≡ 8 * n → length s ≡ n → Bytes s → fixedBitsHold l (bits s) ≡ true
-    → bytes n (packSegments l (unpackSegments l (bits s))) ≡ s
+same_bytes : (l : List Segment) (n : ℕ) (s : List ℕ) → sum (widths l) ≡ 8 * n → length s ≡ n → Bytes s → fixed_bits_hold l (bits s) ≡ true
+    → bytes n (pack_segments l (unpack_segments l (bits s))) ≡ s
 same_bytes l n s e k b f =
-    ap (λ (m : ℕ). bytes m (packSegments l (unpackSegments l (bits s)))) (sym k) ∙ bytes-pack-unpackSegments l s (e ∙ ap (8 *◌) (sym k)) b f
+    ap (λ (m : ℕ). bytes m (pack_segments l (unpack_segments l (bits s)))) (sym k) ∙ bytes-pack-unpack_segments l s (e ∙ ap (8 *◌) (sym k)) b f
 
 -- what is written has the fixed bits
-written-fixed : (l : List Segment) (n : ℕ) (vs : List ℕ) → sum (widths l) ≡ 8 * n → Fit (freeWidths l) vs
-    → fixedBitsHold l (bits (bytes n (packSegments l vs))) ≡ true
+written-fixed : (l : List Segment) (n : ℕ) (vs : List ℕ) → sum (widths l) ≡ 8 * n → Fit (free_widths l) vs
+    → fixed_bits_hold l (bits (bytes n (pack_segments l vs))) ≡ true
 written-fixed l n vs e f =
-    ap (fixedBitsHold l) (bits-bytes n (packSegments l vs) (length-packSegments l vs ∙ e)) ∙ fixed-packSegments l vs f
+    ap (fixed_bits_hold l) (bits-bytes n (pack_segments l vs) (length-pack_segments l vs ∙ e)) ∙ fixed-pack_segments l vs f
 
 -- as many values are read as there are fields
-count : (l : List Segment) (bs : List Bool) (n : ℕ) → length (freeWidths l) ≡ n → length (unpackSegments l bs) ≡ n
-count l bs n e = length-fit (freeWidths l) (unpackSegments l bs) (fit-unpackSegments l bs) ∙ e
+count : (l : List Segment) (bs : List Bool) (n : ℕ) → length (free_widths l) ≡ n → length (unpack_segments l bs) ≡ n
+count l bs n e = length-fit (free_widths l) (unpack_segments l bs) (fit-unpack_segments l bs) ∙ e
 
 -- ---- the header of a record
 
 module _ (r : Header) where
-  frontBytes : List ℕ
-  frontBytes = bytes 99 (packSegments frontLayout (frontFields r.front))
+  front_bytes : List ℕ
+  front_bytes = bytes 99 (pack_segments front_layout (front_fields r.front))
 
-  extensionBytes : List ℕ
-  extensionBytes = bytes 85 (packSegments extensionLayout (extensionFields r.extension))
+  extension_bytes : List ℕ
+  extension_bytes = bytes 85 (pack_segments extension_layout (extension_fields r.extension))
 
-  length_front : length frontBytes ≡ 99
-  unfolding frontBytes
-  length_front = length-bytes 99 (packSegments frontLayout (frontFields r.front))
+  length_front : length front_bytes ≡ 99
+  unfolding front_bytes
+  length_front = length-bytes 99 (pack_segments front_layout (front_fields r.front))
 
-  length-extension : length extensionBytes ≡ 85
-  unfolding extensionBytes
-  length-extension = length-bytes 85 (packSegments extensionLayout (extensionFields r.extension))
+  length-extension : length extension_bytes ≡ 85
+  unfolding extension_bytes
+  length-extension = length-bytes 85 (pack_segments extension_layout (extension_fields r.extension))
 
-  pub length-header : length (headerOf r) ≡ 188
-  unfolding headerOf frontBytes extensionBytes
-  length-header = length-sealed frontBytes extensionBytes length_front length-extension
+  pub length-header : length (header_of r) ≡ 188
+  unfolding header_of front_bytes extension_bytes
+  length-header = length-sealed front_bytes extension_bytes length_front length-extension
 
-  pub crc-header : crc32Of (bits (drop 4 (headerOf r))) ≡ 0
-  unfolding headerOf frontBytes extensionBytes
-  crc-header = sealed-crc frontBytes extensionBytes length_front length-extension
+  pub crc-header : crc32_of (bits (drop 4 (header_of r))) ≡ 0
+  unfolding header_of front_bytes extension_bytes
+  crc-header = sealed-crc front_bytes extension_bytes length_front length-extension
 
   -- its first 99 bytes, and the 85 after them
-  front-part : take 99 (headerOf r) ≡ frontBytes
-  unfolding headerOf frontBytes extensionBytes
-  front-part = sealed-front frontBytes extensionBytes length_front length-extension
+  front-part : take 99 (header_of r) ≡ front_bytes
+  unfolding header_of front_bytes extension_bytes
+  front-part = sealed-front front_bytes extension_bytes length_front length-extension
 
-  extension-part : take 85 (drop 99 (headerOf r)) ≡ extensionBytes
-  unfolding headerOf frontBytes extensionBytes
-  extension-part = sealed-extension frontBytes extensionBytes length_front length-extension
+  extension-part : take 85 (drop 99 (header_of r)) ≡ extension_bytes
+  unfolding header_of front_bytes extension_bytes
+  extension-part = sealed-extension front_bytes extension_bytes length_front length-extension
 
-  module _ (sizes : Sized r) (narrow : tooWide r ≡ false) where
-    front_read : frontIn (headerOf r) ≡ r.front
-    unfolding frontIn frontBytes
+  module _ (sizes : Sized r) (narrow : too_wide r ≡ false) where
+    front_read : front_in (header_of r) ≡ r.front
+    unfolding front_in front_bytes
     front_read =
-        ap (λ (x : List ℕ). frontOf (unpackSegments frontLayout (bits x))) front-part
-        ∙ ap frontOf (unpack-bytes-packSegments frontLayout (frontFields r.front) 99 front-bits (fits r narrow).front)
+        ap (λ (x : List ℕ). front_of (unpack_segments front_layout (bits x))) front-part
+        ∙ ap front_of (unpack-bytes-pack_segments front_layout (front_fields r.front) 99 front-bits (fits r narrow).front)
         ∙ front-fields r sizes
 
-    extension-read : extensionIn (headerOf r) ≡ r.extension
-    unfolding extensionIn extensionBytes
+    extension-read : extension_in (header_of r) ≡ r.extension
+    unfolding extension_in extension_bytes
     extension-read =
-        ap (λ (x : List ℕ). extensionOf (unpackSegments extensionLayout (bits x))) extension-part
-        ∙ ap extensionOf (unpack-bytes-packSegments extensionLayout (extensionFields r.extension) 85 extension-bits (fits r narrow).extension)
+        ap (λ (x : List ℕ). extension_of (unpack_segments extension_layout (bits x))) extension-part
+        ∙ ap extension_of (unpack-bytes-pack_segments extension_layout (extension_fields r.extension) 85 extension-bits (fits r narrow).extension)
         ∙ extension-fields r sizes
 
-    pub header_read : headerIn (headerOf r) ≡ r
+    pub header_read : header_in (header_of r) ≡ r
     header_read = ap₂ (λ (f : Front) (e : Extension). record { front = f; extension = e }) front_read extension-read
 
-    slot-bit-written : slotBitWrong (headerOf r) ≡ false
-    unfolding slotBitWrong frontBytes
+    slot-bit-written : slot_bit_wrong (header_of r) ≡ false
+    unfolding slot_bit_wrong front_bytes
     slot-bit-written =
-        ap (λ (x : List ℕ). not (fixedBitsHold frontLayout (bits x))) front-part
-        ∙ ap not (written-fixed frontLayout 99 (frontFields r.front) front-bits (fits r narrow).front)
+        ap (λ (x : List ℕ). not (fixed_bits_hold front_layout (bits x))) front-part
+        ∙ ap not (written-fixed front_layout 99 (front_fields r.front) front-bits (fits r narrow).front)
 
-    ones-written : extensionWrong (headerOf r) ≡ false
-    unfolding extensionWrong extensionBytes
+    ones-written : extension_wrong (header_of r) ≡ false
+    unfolding extension_wrong extension_bytes
     ones-written =
-        ap (λ (x : List ℕ). not (fixedBitsHold extensionLayout (bits x))) extension-part
-        ∙ ap not (written-fixed extensionLayout 85 (extensionFields r.extension) extension-bits (fits r narrow).extension)
+        ap (λ (x : List ℕ). not (fixed_bits_hold extension_layout (bits x))) extension-part
+        ∙ ap not (written-fixed extension_layout 85 (extension_fields r.extension) extension-bits (fits r narrow).extension)
 
     -- the reader finds in it what the writer finds in the record
-    pub same-refusal : headerRefusal (headerOf r) ≡ recordRefusal r
-    unfolding headerRefusal recordRefusal firstRefusal crcWrong
+    pub same-refusal : header_refusal (header_of r) ≡ record_refusal r
+    unfolding header_refusal record_refusal first_refusal crc_wrong
     same-refusal =
-        rw (length-header, crc-header, slot-bit-written, ones-written, front_read, or-false (stateWrong r.front), narrow)
+        rw (length-header, crc-header, slot-bit-written, ones-written, front_read, or-false (state_wrong r.front), narrow)
 
 -- ---- the record of an accepted header
 
 module _ (h : List ℕ) where
-  front-values : frontFields (frontIn h) ≡ unpackSegments frontLayout (bits (take 99 h))
-  unfolding frontIn
-  front-values = let v = unpackSegments frontLayout (bits (take 99 h)) in fields-front v (count frontLayout (bits (take 99 h)) 119 front-count)
+  front-values : front_fields (front_in h) ≡ unpack_segments front_layout (bits (take 99 h))
+  unfolding front_in
+  front-values = let v = unpack_segments front_layout (bits (take 99 h)) in fields-front v (count front_layout (bits (take 99 h)) 119 front-count)
 
-  extension-values : extensionFields (extensionIn h) ≡ unpackSegments extensionLayout (bits (take 85 (drop 99 h)))
-  unfolding extensionIn
+  extension-values : extension_fields (extension_in h) ≡ unpack_segments extension_layout (bits (take 85 (drop 99 h)))
+  unfolding extension_in
   extension-values =
-      let bs = bits (take 85 (drop 99 h)) in fields-extension (unpackSegments extensionLayout bs) (count extensionLayout bs 26 extension-count)
+      let bs = bits (take 85 (drop 99 h)) in fields-extension (unpack_segments extension_layout bs) (count extension_layout bs 26 extension-count)
 
   module _ (a : Accepted h) where
-    pub read-legal : Legal (headerIn h)
-    unfolding recordRefusal tooWide
+    pub read-legal : Legal (header_in h)
+    unfolding record_refusal too_wide
     read-legal =
-        let v = fit-fitb (freeWidths frontLayout) (frontFields (frontIn h)) (rw front-values (fit-unpackSegments frontLayout (bits (take 99 h)))) in
+        let v = fit-fitb (free_widths front_layout) (front_fields (front_in h)) (rw front-values (fit-unpack_segments front_layout (bits (take 99 h)))) in
         let w =
-        fit-fitb (freeWidths extensionLayout) (extensionFields (extensionIn h))
-        (rw extension-values (fit-unpackSegments extensionLayout (bits (take 85 (drop 99 h))))) in
-        none-refusal (recordTests (headerIn h)) (
+        fit-fitb (free_widths extension_layout) (extension_fields (extension_in h))
+        (rw extension-values (fit-unpack_segments extension_layout (bits (take 85 (drop 99 h))))) in
+        none-refusal (record_tests (header_in h)) (
           rw (v, w),
-          (ap not (eq-eqb ((frontIn h).packet / 2 ^ 24) 0x47 a.packet-sync), (ap not (eq-eqb (frontIn h).form 1 a.form), (a.states, tt))),
+          (ap not (eq-eqb ((front_in h).packet / 2 ^ 24) 0x47 a.packet-sync), (ap not (eq-eqb (front_in h).form 1 a.form), (a.states, tt))),
         )
 
-    pub read-written : Bytes h → headerOf (headerIn h) ≡ h
-    unfolding headerOf
+    pub read-written : Bytes h → header_of (header_in h) ≡ h
+    unfolding header_of
     read-written b =
         let x = take 99 h in
         let y = take 85 (drop 99 h) in
         let size = a.size in
         let lx : length x ≡ 99 = length-take-le 99 h (omega arith) in
         let ly : length y ≡ 85 = length-take-le 85 (drop 99 h) (omega (arith, length-drop 99 h)) in
-        ap₂ (λ (v w : List ℕ). sealed (bytes 99 (packSegments frontLayout v) ++ bytes 85 (packSegments extensionLayout w))) front-values extension-values
+        ap₂ (λ (v w : List ℕ). sealed (bytes 99 (pack_segments front_layout v) ++ bytes 85 (pack_segments extension_layout w))) front-values extension-values
         ∙ ap₂ (λ (v w : List ℕ). sealed (v ++ w))
-        (same_bytes frontLayout 99 x front-bits lx (Bytes-take 99 h b) a.slot-bit)
-        (same_bytes extensionLayout 85 y extension-bits ly (Bytes-take 85 (drop 99 h) (Bytes-drop 99 h b)) a.ones)
+        (same_bytes front_layout 99 x front-bits lx (Bytes-take 99 h b) a.slot-bit)
+        (same_bytes extension_layout 85 y extension-bits ly (Bytes-take 85 (drop 99 h) (Bytes-drop 99 h b)) a.ones)
         ∙ sealed-only h b a.size a.crc

@@ -7,7 +7,7 @@ use native.Mathlib.Omega.{arith}
 use lib.ListN.{length, take, drop, length-drop, take-append-drop}
 use lib.Seq.{take_at, drop_at, length-take-le}
 use Rattle.bits.specs.Bits.{bits, bytes, Bytes}
-use Rattle.bits.proofs.Bits.{bytes_bits, bits-take, bits-drop}
+use Rattle.bits.proofs.Bits.{bytes-bits, bits-take, bits-drop}
 use Rattle.header.proofs.Sealed.{Bytes-take, Bytes-drop}
 
 -- n bytes whose bits are a, and m whose bits are b
@@ -18,7 +18,7 @@ bytes-parts t n m a b h l la e =
     let bt : bits (take n t) ≡ a = sym (bits-take n t (omega arith)) ∙ ap (take (8 * n)) e ∙ take_at a b (8 * n) la in
     let bd : bits (drop n t) ≡ b = sym (bits-drop n t (omega arith)) ∙ ap (drop (8 * n)) e ∙ drop_at a b (8 * n) la in
     sym (take-append-drop n t)
-    ∙ ap₂ (λ x y. x ++ y) (sym (bytes_bits (take n t) (Bytes-take n t h)) ∙ ap₂ bytes lt bt) (sym (bytes_bits (drop n t) (Bytes-drop n t h)) ∙ ap₂ bytes ld bd)
+    ∙ ap₂ (λ x y. x ++ y) (sym (bytes-bits (take n t) (Bytes-take n t h)) ∙ ap₂ bytes lt bt) (sym (bytes-bits (drop n t) (Bytes-drop n t h)) ∙ ap₂ bytes ld bd)
 
 -- the first n bytes anew, the others as they were
 pub written-part : (n : ℕ) (a : List Bool) (s t : List ℕ) → n ≤ length s → length t ≡ length s → Bytes s → Bytes t → length a ≡ 8 * n
@@ -27,4 +27,4 @@ written-part n a s t h e hs ht la p =
     let m = length s - n in
     let ld : m ≡ length (drop n s) = sym (length-drop n s) in
     bytes-parts t n m a (bits (drop n s)) ht (omega arith) la (p ∙ ap (a ++◌) (bits-drop n s h))
-    ∙ ap (bytes n a ++◌) (ap (λ k. bytes k (bits (drop n s))) ld ∙ bytes_bits (drop n s) (Bytes-drop n s hs))
+    ∙ ap (bytes n a ++◌) (ap (λ k. bytes k (bits (drop n s))) ld ∙ bytes-bits (drop n s) (Bytes-drop n s hs))

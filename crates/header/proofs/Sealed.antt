@@ -7,7 +7,7 @@ use lib.ListN.{length, take, drop, length-append, length-drop, take-append-drop}
 use lib.Seq.{take_at, drop_at, take-add, get_or-drop, drop-append-le, length-take-le}
 use Rattle.bits.specs.Bits.{bits, bytes, Bytes}
 use Rattle.bits.proofs.Bits.{length-bytes}
-use Rattle.crc.specs.Crc.{crc32, crc32Of}
+use Rattle.crc.specs.Crc.{crc32, crc32_of}
 use Rattle.crc.proofs.Crc.{crc32-own-bytes, crc32-only-bytes}
 use Rattle.header.specs.Header.{sealed}
 
@@ -43,16 +43,16 @@ module _ (a b : List ℕ) (la : length a ≡ 99) (lb : length b ≡ 85) where
       ap (λ (l : List ℕ). take 85 (drop 99 l)) (append_assoc a b c)
       ∙ ap (take 85) (drop_at a (b ++ c) 99 la) ∙ take_at b c 85 lb
 
-  pub sealed-crc : crc32Of (bits (drop 4 (sealed (a ++ b)))) ≡ 0
+  pub sealed-crc : crc32_of (bits (drop 4 (sealed (a ++ b)))) ≡ 0
   unfolding sealed
   sealed-crc =
       let s = a ++ b in
       let l = length-parts in
-      ap (λ (x : List ℕ). crc32Of (bits x)) (drop-append-le 4 s (bytes 4 (crc32 (bits (drop 4 s)))) (omega arith))
+      ap (λ (x : List ℕ). crc32_of (bits x)) (drop-append-le 4 s (bytes 4 (crc32 (bits (drop 4 s)))) (omega arith))
       ∙ crc32-own-bytes (drop 4 s)
 
 -- only the CRC's own four bytes let it come out zero
-pub sealed-only : (h : List ℕ) → Bytes h → length h ≡ 188 → crc32Of (bits (drop 4 h)) ≡ 0 → sealed (take 99 h ++ take 85 (drop 99 h)) ≡ h
+pub sealed-only : (h : List ℕ) → Bytes h → length h ≡ 188 → crc32_of (bits (drop 4 h)) ≡ 0 → sealed (take 99 h ++ take 85 (drop 99 h)) ≡ h
 unfolding sealed
 sealed-only h b l e =
     let s = take 184 h in
@@ -60,5 +60,5 @@ sealed-only h b l e =
     let ls : length s ≡ 184 = length-take-le 184 h (omega arith) in
     let d : drop 4 h ≡ drop 4 s ++ x = ap (drop 4) (sym (take-append-drop 184 h)) ∙ drop-append-le 4 s x (omega arith) in
     let c : x ≡ bytes 4 (crc32 (bits (drop 4 s))) =
-    crc32-only-bytes (drop 4 s) x (length-drop 184 h ∙ omega arith) (Bytes-drop 184 h b) (ap (λ (y : List ℕ). crc32Of (bits y)) (sym d) ∙ e) in
+    crc32-only-bytes (drop 4 s) x (length-drop 184 h ∙ omega arith) (Bytes-drop 184 h b) (ap (λ (y : List ℕ). crc32_of (bits y)) (sym d) ∙ e) in
     ap sealed (sym (take-add 99 85 h)) ∙ ap (s ++◌) (sym c) ∙ take-append-drop 184 h

@@ -16,14 +16,14 @@ pairs (x ∷ xs) [] = x ∷ 0 ∷ pairs xs []
 pairs (x ∷ xs) (y ∷ ys) = x ∷ y ∷ pairs xs ys
 
 -- the 119 fields of the front
-unfoldable pub frontFields : Front → List ℕ
-frontFields f =
+unfoldable pub front_fields : Front → List ℕ
+front_fields f =
     f.packet ∷ f.sync ∷ f.change ∷ f.method ∷ f.form
     ∷ (f.valid ++ (pairs f.streams f.networks ++ (f.states ++ f.carried ∷ f.emergency ∷ f.slots)))
 
 -- the front that has these fields
-unfoldable pub frontOf : List ℕ → Front
-frontOf v =
+unfoldable pub front_of : List ℕ → Front
+front_of v =
     record {
       packet = get_or v 0 0;
       sync = get_or v 1 0;
@@ -40,11 +40,11 @@ frontOf v =
     }
 
 -- the 26 fields of the extension
-unfoldable pub extensionFields : Extension → List ℕ
-extensionFields e = e.ac
+unfoldable pub extension_fields : Extension → List ℕ
+extension_fields e = e.ac
 
-unfoldable pub extensionOf : List ℕ → Extension
-extensionOf v = record { ac = run v 0 1 26 }
+unfoldable pub extension_of : List ℕ → Extension
+extension_of v = record { ac = run v 0 1 26 }
 
 -- the arrays have their lengths, as every header in the box has
 pub record Sized (r : Header) : Type 0 where

@@ -1,12 +1,12 @@
 -- Reading and writing a header (document 01, "The cable header" and "When the box says no"). Assumes nothing.
 use Rattle.std.specs.Prelude.{◌≡◌, Bool, cond, not, ◌||◌, List, [], ◌∷◌, ◌++◌, ℕ, eqb, length, take, drop}
 use Rattle.bits.specs.Bits.{bits, bytes}
-use Rattle.bits.specs.Segment.{packSegments, unpackSegments}
-use Rattle.bits.specs.Refusal.{firstRefusal}
+use Rattle.bits.specs.Segment.{pack_segments, unpack_segments}
+use Rattle.bits.specs.Refusal.{first_refusal}
 use Rattle.crc.specs.Crc.{crc32}
-use Rattle.header.specs.Layout.{frontLayout, extensionLayout}
-use Rattle.header.specs.Fields.{frontFields, frontOf, extensionFields, extensionOf}
-use Rattle.header.specs.Tests.{tooWide, packetSyncByteWrong, crcWrong, formUnknown, stateWrong, slotBitWrong, extensionWrong}
+use Rattle.header.specs.Layout.{front_layout, extension_layout}
+use Rattle.header.specs.Fields.{front_fields, front_of, extension_fields, extension_of}
+use Rattle.header.specs.Tests.{too_wide, packet_sync_byte_wrong, crc_wrong, form_unknown, state_wrong, slot_bit_wrong, extension_wrong}
 use Rattle.header.specs.declared.Front.{Front}
 use Rattle.header.specs.declared.Extension.{Extension}
 use Rattle.header.specs.declared.Header.{Header}
@@ -15,35 +15,35 @@ use Rattle.header.specs.declared.HeaderReading.{HeaderReading}
 -- ---- reading
 
 -- what stands in the bytes h
-unfoldable pub frontIn : List ℕ → Front
-frontIn h = frontOf (unpackSegments frontLayout (bits (take 99 h)))
+unfoldable pub front_in : List ℕ → Front
+front_in h = front_of (unpack_segments front_layout (bits (take 99 h)))
 
-unfoldable pub extensionIn : List ℕ → Extension
-extensionIn h = extensionOf (unpackSegments extensionLayout (bits (take 85 (drop 99 h))))
+unfoldable pub extension_in : List ℕ → Extension
+extension_in h = extension_of (unpack_segments extension_layout (bits (take 85 (drop 99 h))))
 
-abbrev pub headerIn : List ℕ → Header
-headerIn h = record { front = frontIn h; extension = extensionIn h }
+abbrev pub header_in : List ℕ → Header
+header_in h = record { front = front_in h; extension = extension_in h }
 
 -- the tests, in order
-abbrev pub headerTests : List ℕ → List (ℕ × Bool)
-headerTests h =
+abbrev pub header_tests : List ℕ → List (ℕ × Bool)
+header_tests h =
     (1, not (eqb (length h) 188))
-    ∷ (12, packetSyncByteWrong (frontIn h))
-    ∷ (13, crcWrong h)
-    ∷ (14, formUnknown (frontIn h))
-    ∷ (15, slotBitWrong h || (stateWrong (frontIn h) || extensionWrong h))
+    ∷ (12, packet_sync_byte_wrong (front_in h))
+    ∷ (13, crc_wrong h)
+    ∷ (14, form_unknown (front_in h))
+    ∷ (15, slot_bit_wrong h || (state_wrong (front_in h) || extension_wrong h))
     ∷ []
 
-unfoldable pub headerRefusal : List ℕ → ℕ
-headerRefusal h = firstRefusal (headerTests h)
+unfoldable pub header_refusal : List ℕ → ℕ
+header_refusal h = first_refusal (header_tests h)
 
 -- a header of zeros, which stands beside a refusal
 unfoldable pub no_header : Header
-no_header = record { front = frontOf []; extension = extensionOf [] }
+no_header = record { front = front_of []; extension = extension_of [] }
 
 -- what `read` answers
-unfoldable pub headerReadOf : List ℕ → HeaderReading
-headerReadOf h = record { number = headerRefusal h; header = cond (eqb (headerRefusal h) 0) (headerIn h) no_header }
+unfoldable pub header_read_of : List ℕ → HeaderReading
+header_read_of h = record { number = header_refusal h; header = cond (eqb (header_refusal h) 0) (header_in h) no_header }
 
 -- ---- writing
 
@@ -52,32 +52,32 @@ unfoldable pub sealed : List ℕ → List ℕ
 sealed s = s ++ bytes 4 (crc32 (bits (drop 4 s)))
 
 -- the header's bytes
-unfoldable pub headerOf : Header → List ℕ
-headerOf r =
+unfoldable pub header_of : Header → List ℕ
+header_of r =
     sealed
-    (bytes 99 (packSegments frontLayout (frontFields r.front)) ++ bytes 85 (packSegments extensionLayout (extensionFields r.extension)))
+    (bytes 99 (pack_segments front_layout (front_fields r.front)) ++ bytes 85 (pack_segments extension_layout (extension_fields r.extension)))
 
 -- what a record is tested for, in order
-abbrev pub recordTests : Header → List (ℕ × Bool)
-recordTests r =
-    (10, tooWide r)
-    ∷ (12, packetSyncByteWrong r.front)
-    ∷ (14, formUnknown r.front)
-    ∷ (15, stateWrong r.front)
+abbrev pub record_tests : Header → List (ℕ × Bool)
+record_tests r =
+    (10, too_wide r)
+    ∷ (12, packet_sync_byte_wrong r.front)
+    ∷ (14, form_unknown r.front)
+    ∷ (15, state_wrong r.front)
     ∷ []
 
 -- its refusal, 0 where it is legal
-unfoldable pub recordRefusal : Header → ℕ
-recordRefusal r = firstRefusal (recordTests r)
+unfoldable pub record_refusal : Header → ℕ
+record_refusal r = first_refusal (record_tests r)
 
 -- the writer does not refuse it
 abbrev pub Legal : Header → Type 0
-Legal r = recordRefusal r ≡ 0
+Legal r = record_refusal r ≡ 0
 
 -- what `write` answers for a buffer of n bytes
-unfoldable pub writeNumber : Header → ℕ → ℕ
-writeNumber r n = cond (eqb n 188) (recordRefusal r) 1
+unfoldable pub write_number : Header → ℕ → ℕ
+write_number r n = cond (eqb n 188) (record_refusal r) 1
 
 -- and what it leaves in the buffer s
-unfoldable pub writeOf : Header → List ℕ → List ℕ
-writeOf r s = cond (eqb (writeNumber r (length s)) 0) (headerOf r) s
+unfoldable pub write_of : Header → List ℕ → List ℕ
+write_of r s = cond (eqb (write_number r (length s)) 0) (header_of r) s

@@ -3,8 +3,8 @@ use Rattle.std.specs.Prelude.{List, ◌∷◌, ◌++◌, replicate}
 use Rattle.bits.specs.Segment.{Segment, field, fixedOnes}
 
 -- bytes 0 to 98
-unfoldable pub frontLayout : List Segment
-frontLayout =
+unfoldable pub front_layout : List Segment
+front_layout =
     -- packet header, multiplex frame sync, change number: the table's widths. The annexes 1 and 2, on the first two, are omitted in 002
     field 32 ∷ field 16 ∷ field 3
     -- slot information (annex 3): method, multiplex form, validity of streams 1 to 15, an undefined bit, which is fixed at 1
@@ -19,5 +19,5 @@ frontLayout =
 -- bytes 99 to 183. Document 01: "first 204 bits for the AC frame, all 1 when none is sent; the other 476 bits are fixed at 1." It follows the earlier
 -- column of 002, which has no annex on the extension: note 13 there puts the AC symbols into the first 204 bits, and note 11 sets all 680 bits to 1 where
 -- the extension is not used. The amended annex 7 lays the 476 bits out otherwise; document 02's request c takes that layout in.
-unfoldable pub extensionLayout : List Segment
-extensionLayout = replicate 25 (field 8) ++ field 4 ∷ fixedOnes 4 ∷ replicate 59 (fixedOnes 8)
+unfoldable pub extension_layout : List Segment
+extension_layout = replicate 25 (field 8) ++ field 4 ∷ fixedOnes 4 ∷ replicate 59 (fixedOnes 8)

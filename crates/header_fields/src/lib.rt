@@ -1,12 +1,12 @@
 // A header's fields, out of the order of the layout and into it. Nothing here is an entry point of the box.
 ghost use Rattle.std.specs.Prelude.{◌≡◌};
-ghost use Rattle.header.specs.Fields.{frontFields, frontOf, extensionOf};
+ghost use Rattle.header.specs.Fields.{front_fields, front_of, extension_of};
 
 use header::{Extension, Front};
 
 // The front that has these fields.
 pub fn front_of(v: &[u64; 119]) -> Front
-    ensures { result ≡ frontOf v.now }
+    ensures { result ≡ front_of v.now }
 {
     let valid = header_arrays::run15(v, 5, 1);
     let streams = header_arrays::run15(v, 20, 2);
@@ -31,7 +31,7 @@ pub fn front_of(v: &[u64; 119]) -> Front
 
 // The extension that has these fields.
 pub fn extension_of(v: &[u64; 26]) -> Extension
-    ensures { result ≡ extensionOf v.now }
+    ensures { result ≡ extension_of v.now }
 {
     let ac = header_arrays::run26(v, 0, 1);
     Extension { ac }
@@ -39,7 +39,7 @@ pub fn extension_of(v: &[u64; 26]) -> Extension
 
 // The fields of a front.
 pub fn front_fields(front: Front) -> [u64; 119]
-    ensures { result ≡ frontFields front }
+    ensures { result ≡ front_fields front }
 {
     let mut v = header_arrays::zeros119();
     v[0] = front.packet;

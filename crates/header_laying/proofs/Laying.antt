@@ -8,16 +8,16 @@ use lib.ListN.{length, take, drop, replicate, length-append, length-drop, take-a
 use lib.Seq.{take_at, drop_at, take_all, length-take-le}
 use Rattle.bits.specs.Bits.{bits, bytes, Bytes}
 use Rattle.bits.specs.Layout.{sum, unpack}
-use Rattle.bits.specs.Segment.{Segment, field, fixedOnes, widths, unpackSegments, fixedHold, fixedBitsHold}
-use Rattle.bits.proofs.Bits.{length-bits, length-bytes, bits-bytes, bytes_bits, bits-take, bits-drop}
-use Rattle.bits.proofs.Segment.{fixedBitsHold-append}
-use Rattle.crc.specs.Crc.{crc32Of}
+use Rattle.bits.specs.Segment.{Segment, field, fixedOnes, widths, unpack_segments, fixed_hold, fixed_bits_hold}
+use Rattle.bits.proofs.Bits.{length-bits, length-bytes, bits-bytes, bytes-bits, bits-take, bits-drop}
+use Rattle.bits.proofs.Segment.{fixed_bits_hold-append}
+use Rattle.crc.specs.Crc.{crc32_of}
 use Rattle.frame.proofs.Parts.{inner-part}
-use Rattle.header.specs.Layout.{frontLayout, extensionLayout}
-use Rattle.header.specs.Fields.{frontOf}
+use Rattle.header.specs.Layout.{front_layout, extension_layout}
+use Rattle.header.specs.Fields.{front_of}
 use Rattle.gf2.specs.Polynomial.{member}
-use Rattle.header.specs.Header.{frontIn, sealed}
-use Rattle.header_laying.specs.Laying.{acBits, withAc}
+use Rattle.header.specs.Header.{front_in, sealed}
+use Rattle.header_laying.specs.Laying.{ac_bits, with_ac}
 use Rattle.header_laying.specs.Promises.{SameOutsideAc}
 use Rattle.header.specs.declared.Front.{Front}
 use Rattle.header.proofs.Sealed.{Bytes-take, Bytes-drop, length-sealed, sealed-front, sealed-extension, sealed-crc, sealed-only}
@@ -25,36 +25,36 @@ use Rattle.header.proofs.Headers.{Accepted}
 
 -- ---- the extension: the 204 AC bits, and 476 bits fixed at 1
 
-acLayout : List Segment
-acLayout = replicate 25 (field 8) ++ field 4 ∷ []
+ac_layout : List Segment
+ac_layout = replicate 25 (field 8) ++ field 4 ∷ []
 
-onesLayout : List Segment
-onesLayout = fixedOnes 4 ∷ replicate 59 (fixedOnes 8)
+ones_layout : List Segment
+ones_layout = fixedOnes 4 ∷ replicate 59 (fixedOnes 8)
 
-extension-parts : extensionLayout ≡ acLayout ++ onesLayout
-unfolding extensionLayout acLayout onesLayout
+extension-parts : extension_layout ≡ ac_layout ++ ones_layout
+unfolding extension_layout ac_layout ones_layout
 extension-parts = refl
 
-ac-width : sum (widths acLayout) ≡ 204
-unfolding acLayout widths sum
+ac-width : sum (widths ac_layout) ≡ 204
+unfolding ac_layout widths sum
 ac-width = refl
 
-ac-free : (bs : List Bool) → fixedBitsHold acLayout bs ≡ true
-unfolding acLayout widths unpack fixedHold
+ac-free : (bs : List Bool) → fixed_bits_hold ac_layout bs ≡ true
+unfolding ac_layout widths unpack fixed_hold
 ac-free bs = refl
 
 -- only the bits after the AC bits are tested
-ones-test : (bs : List Bool) → fixedBitsHold extensionLayout bs ≡ fixedBitsHold onesLayout (drop 204 bs)
+ones-test : (bs : List Bool) → fixed_bits_hold extension_layout bs ≡ fixed_bits_hold ones_layout (drop 204 bs)
 ones-test bs =
-    ap (λ (l : List Segment). fixedBitsHold l bs) extension-parts
-    ∙ fixedBitsHold-append acLayout onesLayout bs
-    ∙ ap₂ (λ (t : Bool) (n : ℕ). t && fixedBitsHold onesLayout (drop n bs)) (ac-free bs) ac-width
+    ap (λ (l : List Segment). fixed_bits_hold l bs) extension-parts
+    ∙ fixed_bits_hold-append ac_layout ones_layout bs
+    ∙ ap₂ (λ (t : Bool) (n : ℕ). t && fixed_bits_hold ones_layout (drop n bs)) (ac-free bs) ac-width
 
 -- ---- the bits after the AC bits
 
 -- the extension's bits, and the same bits in the whole header
-afterAc : List ℕ → List Bool
-afterAc h = drop 204 (bits (take 85 (drop 99 h)))
+after_ac : List ℕ → List Bool
+after_ac h = drop 204 (bits (take 85 (drop 99 h)))
 
 module _ (h : List ℕ) (size : length h ≡ 188) where
   length-extension : length (take 85 (drop 99 h)) ≡ 85
@@ -63,13 +63,13 @@ module _ (h : List ℕ) (size : length h ≡ 188) where
   length-extension-bits : length (bits (take 85 (drop 99 h))) ≡ 680
   length-extension-bits = length-bits (take 85 (drop 99 h)) ∙ ap (8 *◌) length-extension
 
-  length-afterAc : length (afterAc h) ≡ 476
-  unfolding afterAc
-  length-afterAc = length-drop 204 (bits (take 85 (drop 99 h))) ∙ omega (arith, length-extension-bits)
+  length-after_ac : length (after_ac h) ≡ 476
+  unfolding after_ac
+  length-after_ac = length-drop 204 (bits (take 85 (drop 99 h))) ∙ omega (arith, length-extension-bits)
 
-  afterAc-place : take 476 (drop 996 (bits h)) ≡ afterAc h
-  unfolding afterAc
-  afterAc-place =
+  after_ac-place : take 476 (drop 996 (bits h)) ≡ after_ac h
+  unfolding after_ac
+  after_ac-place =
       let b = bits (take 85 (drop 99 h)) in
       let e : take 680 (drop 792 (bits h)) ≡ b =
       ap (take 680) (bits-drop 99 h (omega arith)) ∙ bits-take 85 (drop 99 h) (omega (arith, length-drop 99 h)) in
@@ -83,7 +83,7 @@ record Parts (h a : List ℕ) (b : List Bool) : Type 0 where
   size : length h ≡ 188
   front : take 99 h ≡ a
   extension : bits (take 85 (drop 99 h)) ≡ b
-  crc : crc32Of (bits (drop 4 h)) ≡ 0
+  crc : crc32_of (bits (drop 4 h)) ≡ 0
 
 sealed-parts : (a : List ℕ) (b : List Bool) → length a ≡ 99 → length b ≡ 680 → Parts (sealed (a ++ bytes 85 b)) a b
 sealed-parts a b la lb =
@@ -102,72 +102,72 @@ module _ (h : List ℕ) (bs : List Bool) (size : length h ≡ 188) (lb : length 
   length_front = length-take-le 99 h (omega arith)
 
   -- the extension's new bits are whole bytes
-  length-new : length (bs ++ afterAc h) ≡ 680
-  length-new = length-append bs (afterAc h) ∙ ap₂ ◌+◌ lb (length-afterAc h size)
+  length-new : length (bs ++ after_ac h) ≡ 680
+  length-new = length-append bs (after_ac h) ∙ ap₂ ◌+◌ lb (length-after_ac h size)
 
   -- the header with other bits: its length, its parts and its CRC
-  withAc-parts : Parts (withAc h bs) (take 99 h) (bs ++ afterAc h)
-  unfolding withAc afterAc
-  withAc-parts = sealed-parts (take 99 h) (bs ++ afterAc h) length_front length-new
+  with_ac-parts : Parts (with_ac h bs) (take 99 h) (bs ++ after_ac h)
+  unfolding with_ac after_ac
+  with_ac-parts = sealed-parts (take 99 h) (bs ++ after_ac h) length_front length-new
 
-  length-withAc : length (withAc h bs) ≡ 188
-  length-withAc = withAc-parts.size
+  length-with_ac : length (with_ac h bs) ≡ 188
+  length-with_ac = with_ac-parts.size
 
-  withAc-front : take 99 (withAc h bs) ≡ take 99 h
-  withAc-front = withAc-parts.front
+  with_ac-front : take 99 (with_ac h bs) ≡ take 99 h
+  with_ac-front = with_ac-parts.front
 
-  withAc-extension : bits (take 85 (drop 99 (withAc h bs))) ≡ bs ++ afterAc h
-  withAc-extension = withAc-parts.extension
+  with_ac-extension : bits (take 85 (drop 99 (with_ac h bs))) ≡ bs ++ after_ac h
+  with_ac-extension = with_ac-parts.extension
 
-  pub withAc-bits : acBits (withAc h bs) ≡ bs
-  withAc-bits = ap (take 204) withAc-extension ∙ take_at bs (afterAc h) 204 lb
+  pub with_ac-bits : ac_bits (with_ac h bs) ≡ bs
+  with_ac-bits = ap (take 204) with_ac-extension ∙ take_at bs (after_ac h) 204 lb
 
-  withAc-after : afterAc (withAc h bs) ≡ afterAc h
-  unfolding afterAc
-  withAc-after = ap (drop 204) withAc-extension ∙ drop_at bs (afterAc h) 204 lb
+  with_ac-after : after_ac (with_ac h bs) ≡ after_ac h
+  unfolding after_ac
+  with_ac-after = ap (drop 204) with_ac-extension ∙ drop_at bs (after_ac h) 204 lb
 
-  pub withAc-frontIn : frontIn (withAc h bs) ≡ frontIn h
-  unfolding frontIn
-  withAc-frontIn = ap (λ (x : List ℕ). frontOf (unpackSegments frontLayout (bits x))) withAc-front
+  pub with_ac-front_in : front_in (with_ac h bs) ≡ front_in h
+  unfolding front_in
+  with_ac-front_in = ap (λ (x : List ℕ). front_of (unpack_segments front_layout (bits x))) with_ac-front
 
-  pub withAc-outside : SameOutsideAc (withAc h bs) h
-  withAc-outside =
+  pub with_ac-outside : SameOutsideAc (with_ac h bs) h
+  with_ac-outside =
       record {
-        size = length-withAc ∙ sym size;
-        front = withAc-front;
-        rest = afterAc-place (withAc h bs) length-withAc ∙ withAc-after ∙ sym (afterAc-place h size);
+        size = length-with_ac ∙ sym size;
+        front = with_ac-front;
+        rest = after_ac-place (with_ac h bs) length-with_ac ∙ with_ac-after ∙ sym (after_ac-place h size);
       }
 
   -- the second bits replace the first
-  pub withAc-again : (cs : List Bool) → withAc (withAc h bs) cs ≡ withAc h cs
-  unfolding withAc afterAc
-  withAc-again cs = ap₂ (λ (x : List ℕ) (t : List Bool). sealed (x ++ bytes 85 (cs ++ t))) withAc-front withAc-after
+  pub with_ac-again : (cs : List Bool) → with_ac (with_ac h bs) cs ≡ with_ac h cs
+  unfolding with_ac after_ac
+  with_ac-again cs = ap₂ (λ (x : List ℕ) (t : List Bool). sealed (x ++ bytes 85 (cs ++ t))) with_ac-front with_ac-after
 
-pub withAc-accepted : (h : List ℕ) (bs : List Bool) → length bs ≡ 204 → Accepted h → Accepted (withAc h bs)
-unfolding afterAc
-withAc-accepted h bs lb a =
+pub with_ac-accepted : (h : List ℕ) (bs : List Bool) → length bs ≡ 204 → Accepted h → Accepted (with_ac h bs)
+unfolding after_ac
+with_ac-accepted h bs lb a =
     let size = a.size in
-    let front = withAc-frontIn h bs size lb in
-    let k = withAc h bs in
+    let front = with_ac-front_in h bs size lb in
+    let k = with_ac h bs in
     record {
-      size = length-withAc h bs size lb;
+      size = length-with_ac h bs size lb;
       packet-sync = ap (λ (f : Front). f.packet / 2 ^ 24) front ∙ a.packet-sync;
-      crc = (withAc-parts h bs size lb).crc;
+      crc = (with_ac-parts h bs size lb).crc;
       form = ap (λ (f : Front). f.form) front ∙ a.form;
-      slot-bit = ap (λ (x : List ℕ). fixedBitsHold frontLayout (bits x)) (withAc-front h bs size lb) ∙ a.slot-bit;
+      slot-bit = ap (λ (x : List ℕ). fixed_bits_hold front_layout (bits x)) (with_ac-front h bs size lb) ∙ a.slot-bit;
       states = ap (λ (f : Front). member 3 f.states) front ∙ a.states;
       ones =
           ones-test (bits (take 85 (drop 99 k)))
-          ∙ ap (fixedBitsHold onesLayout) (withAc-after h bs size lb)
+          ∙ ap (fixed_bits_hold ones_layout) (with_ac-after h bs size lb)
           ∙ sym (ones-test (bits (take 85 (drop 99 h)))) ∙ a.ones;
     }
 
 -- a header with its own AC bits
-pub withAc-own : (h : List ℕ) → Bytes h → Accepted h → withAc h (acBits h) ≡ h
-unfolding withAc
-withAc-own h b a =
+pub with_ac-own : (h : List ℕ) → Bytes h → Accepted h → with_ac h (ac_bits h) ≡ h
+unfolding with_ac
+with_ac-own h b a =
     let y = take 85 (drop 99 h) in
     ap (λ (l : List Bool). sealed (take 99 h ++ bytes 85 l)) (take-append-drop 204 (bits y))
     ∙ ap (λ (n : ℕ). sealed (take 99 h ++ bytes n (bits y))) (sym (length-extension h a.size))
-    ∙ ap (λ (x : List ℕ). sealed (take 99 h ++ x)) (bytes_bits y (Bytes-take 85 (drop 99 h) (Bytes-drop 99 h b)))
+    ∙ ap (λ (x : List ℕ). sealed (take 99 h ++ x)) (bytes-bits y (Bytes-take 85 (drop 99 h) (Bytes-drop 99 h b)))
     ∙ sealed-only h b a.size a.crc

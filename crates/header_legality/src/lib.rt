@@ -1,13 +1,13 @@
 // Whether the record of a header is legal: its own refusals, 10, 12, 14 and 15, which the writer gives.
 ghost use Rattle.std.specs.Prelude.{◌≡◌};
-ghost use Rattle.header.specs.Tests.{tooWide};
-ghost use Rattle.header.specs.Header.{recordRefusal};
+ghost use Rattle.header.specs.Tests.{too_wide};
+ghost use Rattle.header.specs.Header.{record_refusal};
 
 use header::Header;
 
 // A field is wider than its place.
 fn too_wide(header: Header) -> bool
-    ensures { result ≡ tooWide header }
+    ensures { result ≡ too_wide header }
 {
     let front = header_fields::front_fields(header.front);
     let front_widths = header_tables::front_free();
@@ -22,7 +22,7 @@ fn too_wide(header: Header) -> bool
 
 // A record's refusal, or 0 where it is legal.
 pub fn record_refusal(header: Header) -> u8
-    ensures { result ≡ recordRefusal header }
+    ensures { result ≡ record_refusal header }
 {
     if too_wide(header) {
         return 10;

@@ -2,12 +2,12 @@
 use mathlib.Core.Path.{◌≡◌, refl}
 use mathlib.Core.List.{[]}
 use lib.ListN.{replicate}
-use Rattle.header.specs.Fields.{run, frontOf, extensionOf}
+use Rattle.header.specs.Fields.{run, front_of, extension_of}
 
-pub front-zeros : frontOf (replicate 119 0) ≡ frontOf []
-unfolding frontOf run
+pub front-zeros : front_of (replicate 119 0) ≡ front_of []
+unfolding front_of run
 front-zeros = refl
 
-pub extension-zeros : extensionOf (replicate 26 0) ≡ extensionOf []
-unfolding extensionOf run
+pub extension-zeros : extension_of (replicate 26 0) ≡ extension_of []
+unfolding extension_of run
 extension-zeros = refl

@@ -1,8 +1,8 @@
 // Reading a header: the tests in their order, and the header.
 ghost use Rattle.std.specs.Prelude.{◌≡◌, length};
-ghost use Rattle.header.specs.Tests.{crcWrong};
-ghost use Rattle.header.specs.Header.{no_header, headerRefusal, headerReadOf};
-ghost use Rattle.header_reader.specs.Parts.{frontFound, extensionFound};
+ghost use Rattle.header.specs.Tests.{crc_wrong};
+ghost use Rattle.header.specs.Header.{no_header, header_refusal, header_read_of};
+ghost use Rattle.header_reader.specs.Parts.{front_found, extension_found};
 
 use header::{Extension, Front, Header, HeaderReading};
 
@@ -22,7 +22,7 @@ pub struct ExtensionFound {
 // Bytes 0 to 98.
 fn find_front(h: &[u8]) -> FrontFound
     requires { length h.now ≡ 188 }
-    ensures { result ≡ frontFound h.now }
+    ensures { result ≡ front_found h.now }
 {
     let kinds = header_tables::front_kinds();
     let widths = header_tables::front_widths();
@@ -35,7 +35,7 @@ fn find_front(h: &[u8]) -> FrontFound
 // Bytes 99 to 183.
 fn find_extension(h: &[u8]) -> ExtensionFound
     requires { length h.now ≡ 188 }
-    ensures { result ≡ extensionFound h.now }
+    ensures { result ≡ extension_found h.now }
 {
     let kinds = header_tables::extension_kinds();
     let widths = header_tables::extension_widths();
@@ -47,7 +47,7 @@ fn find_extension(h: &[u8]) -> ExtensionFound
 
 fn crc_wrong(h: &[u8]) -> bool
     requires { length h.now ≡ 188 }
-    ensures { result ≡ crcWrong h.now }
+    ensures { result ≡ crc_wrong h.now }
 {
     crc32::crc32(&h[4..188]) != 0
 }
@@ -65,8 +65,8 @@ fn no_header() -> Header
 
 // The refusal of 188 bytes, when its parts have been found.
 fn refusal_of(h: &[u8], front: FrontFound, extension: ExtensionFound) -> u8
-    requires { length h.now ≡ 188 × (front ≡ frontFound h.now) × (extension ≡ extensionFound h.now) }
-    ensures { result ≡ headerRefusal h.now }
+    requires { length h.now ≡ 188 × (front ≡ front_found h.now) × (extension ≡ extension_found h.now) }
+    ensures { result ≡ header_refusal h.now }
 {
     let found = front.front;
     if found.packet >> 24 != 0x47 {
@@ -93,7 +93,7 @@ fn refusal_of(h: &[u8], front: FrontFound, extension: ExtensionFound) -> u8
 
 // The refusal of any bytes, or 0.
 pub fn refusal(h: &[u8]) -> u8
-    ensures { result ≡ headerRefusal h.now }
+    ensures { result ≡ header_refusal h.now }
 {
     if h.len() != 188 {
         return 1;
@@ -103,7 +103,7 @@ pub fn refusal(h: &[u8]) -> u8
 
 // A header read: its refusal, or 0 with the header, which is all 0 on a refusal.
 pub fn read(h: &[u8]) -> HeaderReading
-    ensures { result ≡ headerReadOf h.now }
+    ensures { result ≡ header_read_of h.now }
 {
     if h.len() != 188 {
         return HeaderReading {

@@ -2,10 +2,10 @@
 use Rattle.std.specs.Prelude.{List, map, ℕ}
 use Rattle.bits.specs.Segment.{Segment, field, fixedOnes, fixedZeros}
 
-abbrev pub segmentKind : Segment → ℕ
-segmentKind (field w) = 0
-segmentKind (fixedOnes w) = 1
-segmentKind (fixedZeros w) = 2
+abbrev pub segment_kind : Segment → ℕ
+segment_kind (field w) = 0
+segment_kind (fixedOnes w) = 1
+segment_kind (fixedZeros w) = 2
 
-unfoldable pub kindsOf : List Segment → List ℕ
-kindsOf = map segmentKind
+unfoldable pub kinds_of : List Segment → List ℕ
+kinds_of = map segment_kind

@@ -2,15 +2,15 @@
 mod ac;
 
 ghost use Rattle.std.specs.Prelude.{◌≡◌};
-ghost use Rattle.bits.specs.Segment.{widths, freeWidths};
-ghost use Rattle.header.specs.Layout.{frontLayout, extensionLayout};
-ghost use Rattle.header_tables.specs.Kinds.{kindsOf};
+ghost use Rattle.bits.specs.Segment.{widths, free_widths};
+ghost use Rattle.header.specs.Layout.{front_layout, extension_layout};
+ghost use Rattle.header_tables.specs.Kinds.{kinds_of};
 
 pub use ac::ac_ones;
 
 // The front, 120 segments: the one after the validity of stream 15 is fixed.
 pub fn front_kinds() -> [u8; 120]
-    ensures { result ≡ kindsOf frontLayout }
+    ensures { result ≡ kinds_of front_layout }
 {
     [
         0, 0, 0, 0, 0, 0, 0, 0, 0, 0, 0, 0, 0, 0, 0, 0, 0, 0, 0, 0, 1, // the undefined bit of the slot information
@@ -23,7 +23,7 @@ pub fn front_kinds() -> [u8; 120]
 
 // Their widths.
 pub fn front_widths() -> [usize; 120]
-    ensures { result ≡ widths frontLayout }
+    ensures { result ≡ widths front_layout }
 {
     [
         32, // packet header
@@ -46,7 +46,7 @@ pub fn front_widths() -> [usize; 120]
 
 // The extension, 86 segments: the AC bits, and then those that are fixed.
 pub fn extension_kinds() -> [u8; 86]
-    ensures { result ≡ kindsOf extensionLayout }
+    ensures { result ≡ kinds_of extension_layout }
 {
     [
         0, 0, 0, 0, 0, 0, 0, 0, 0, 0, 0, 0, 0, 0, 0, 0, 0, 0, 0, 0, 0, 0, 0, 0, 0, 0, 1, // the first bits that are fixed
@@ -57,7 +57,7 @@ pub fn extension_kinds() -> [u8; 86]
 
 // Their widths.
 pub fn extension_widths() -> [usize; 86]
-    ensures { result ≡ widths extensionLayout }
+    ensures { result ≡ widths extension_layout }
 {
     [
         8, 8, 8, 8, 8, 8, 8, 8, 8, 8, 8, 8, 8, 8, 8, 8, 8, 8, 8, 8, 8, 8, 8, 8, 8, 4, // the last AC bits
@@ -69,7 +69,7 @@ pub fn extension_widths() -> [usize; 86]
 
 // The widths of the front's fields alone.
 pub fn front_free() -> [usize; 119]
-    ensures { result ≡ freeWidths frontLayout }
+    ensures { result ≡ free_widths front_layout }
 {
     [
         32, 16, 3, 1, 4, 1, 1, 1, 1, 1, 1, 1, 1, 1, 1, 1, 1, 1, 1, 1, 16, 16, 16, 16, 16, 16, 16,
@@ -82,7 +82,7 @@ pub fn front_free() -> [usize; 119]
 
 // The widths of the extension's fields alone, which are the 204 AC bits.
 pub fn extension_free() -> [usize; 26]
-    ensures { result ≡ freeWidths extensionLayout }
+    ensures { result ≡ free_widths extension_layout }
 {
     [
         8, 8, 8, 8, 8, 8, 8, 8, 8, 8, 8, 8, 8, 8, 8, 8, 8, 8, 8, 8, 8, 8, 8, 8, 8, 4, // 25 bytes and 4 bits are the 204 AC bits

@@ -1,17 +1,17 @@
 // Writing a header: the bytes of a record.
 ghost use Rattle.std.specs.Prelude.{◌≡◌, length, take, drop, ◌++◌};
 ghost use Rattle.bits.specs.Bits.{bytes};
-ghost use Rattle.bits.specs.Segment.{packSegments};
-ghost use Rattle.header.specs.Layout.{frontLayout, extensionLayout};
-ghost use Rattle.header.specs.Fields.{frontFields, extensionFields};
-ghost use Rattle.header.specs.Header.{sealed, writeNumber, writeOf};
+ghost use Rattle.bits.specs.Segment.{pack_segments};
+ghost use Rattle.header.specs.Layout.{front_layout, extension_layout};
+ghost use Rattle.header.specs.Fields.{front_fields, extension_fields};
+ghost use Rattle.header.specs.Header.{sealed, write_number, write_of};
 
 use header::{Extension, Front, Header};
 
 // Bytes 0 to 98.
 fn put_front(buffer: &mut [u8], front: Front)
     requires { length buffer.old ≡ 188 }
-    ensures { buffer.new ≡ bytes 99 (packSegments frontLayout (frontFields front)) ++ drop 99 buffer.old }
+    ensures { buffer.new ≡ bytes 99 (pack_segments front_layout (front_fields front)) ++ drop 99 buffer.old }
 {
     let v = header_fields::front_fields(front);
     let kinds = header_tables::front_kinds();
@@ -22,7 +22,7 @@ fn put_front(buffer: &mut [u8], front: Front)
 // Bytes 99 to 183, of the part that starts at byte 99.
 fn put_extension(part: &mut [u8], extension: Extension)
     requires { length part.old ≡ 89 }
-    ensures { part.new ≡ bytes 85 (packSegments extensionLayout (extensionFields extension)) ++ drop 85 part.old }
+    ensures { part.new ≡ bytes 85 (pack_segments extension_layout (extension_fields extension)) ++ drop 85 part.old }
 {
     let ac = extension.ac;
     let kinds = header_tables::extension_kinds();
@@ -41,8 +41,8 @@ pub fn seal(header: &mut [u8])
 
 // A legal header into a buffer of 188 bytes.
 pub fn write(header: Header, buffer: &mut [u8]) -> u8
-    ensures number { result ≡ writeNumber header (length buffer.old) }
-    ensures buffer { buffer.new ≡ writeOf header buffer.old }
+    ensures number { result ≡ write_number header (length buffer.old) }
+    ensures buffer { buffer.new ≡ write_of header buffer.old }
 {
     if buffer.len() != 188 {
         return 1;

@@ -68,7 +68,7 @@ module _ (ws : List ℕ) (fit : Fit ws) (i : ℕ) (h : i < 64) where
       go false e = two-words p (eqb-false (p % 64) 0 e)
 
 -- windows added up
-abbrev pub windowSum : List ℕ → List ℕ → ℕ
-windowSum ws [] = 0
-windowSum ws (p ∷ []) = window ws p
-windowSum ws (p ∷ q ∷ ps) = bit_xor (window ws p) (windowSum ws (q ∷ ps))
+abbrev pub window_sum : List ℕ → List ℕ → ℕ
+window_sum ws [] = 0
+window_sum ws (p ∷ []) = window ws p
+window_sum ws (p ∷ q ∷ ps) = bit_xor (window ws p) (window_sum ws (q ∷ ps))

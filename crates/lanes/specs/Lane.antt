@@ -11,6 +11,6 @@ abbrev pub bit_at : List ℕ → ℕ → Bool
 bit_at ws n = lane (get_or ws (n / 64) 0) (n % 64)
 
 -- in how many words lane i is set
-abbrev pub setIn : ℕ → List ℕ → ℕ
-setIn i [] = 0
-setIn i (x ∷ xs) = digit (lane x i) + setIn i xs
+abbrev pub set_in : ℕ → List ℕ → ℕ
+set_in i [] = 0
+set_in i (x ∷ xs) = digit (lane x i) + set_in i xs

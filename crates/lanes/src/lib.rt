@@ -2,7 +2,7 @@
 ghost use Rattle.std.specs.Prelude.{◌≡◌, [], ◌∷◌, ℕ, ◌+◌, ◌*◌, ◌≤◌, leb};
 ghost use Rattle.std.specs.Int.Count as digits;
 ghost use Rattle.bits.specs.Bits.{digit};
-ghost use Rattle.lanes.specs.Lane.{lane, setIn};
+ghost use Rattle.lanes.specs.Lane.{lane, set_in};
 
 // What an adder gives in each lane: the lowest bit of the sum, and the carry.
 #[derive(Drop)]
@@ -51,7 +51,7 @@ pub fn at_least_nine(
     x15: u64,
     x16: u64,
 ) -> u64
-    ensures { (i : ℕ) → lane result i ≡ leb 9 (setIn i (x0 ∷ x1 ∷ x2 ∷ x3 ∷ x4 ∷ x5 ∷ x6 ∷ x7 ∷ x8 ∷ x9 ∷ x10 ∷ x11 ∷ x12 ∷ x13 ∷ x14 ∷ x15 ∷ x16 ∷ [])) }
+    ensures { (i : ℕ) → lane result i ≡ leb 9 (set_in i (x0 ∷ x1 ∷ x2 ∷ x3 ∷ x4 ∷ x5 ∷ x6 ∷ x7 ∷ x8 ∷ x9 ∷ x10 ∷ x11 ∷ x12 ∷ x13 ∷ x14 ∷ x15 ∷ x16 ∷ [])) }
 {
     let a = full_adder(x0, x1, x2);
     let b = full_adder(a.sum, x3, x4);

@@ -11,9 +11,9 @@ use Rattle.bits.specs.Bits.{digit, Bytes}
 use Rattle.bits.specs.Layout.{sum}
 use Rattle.frame.specs.declared.Edition.{Edition}
 use Rattle.frame.specs.declared.Verdict.{Verdict}
-use Rattle.frame_verdicts.specs.Promises.{JudgedAs, verdictRefused, verdictAccepted}
+use Rattle.frame_verdicts.specs.Promises.{JudgedAs, verdict_refused, verdict_accepted}
 use Rattle.frame_verdicts.proofs.Promises.{every-verdict}
-use Rattle.ledger.specs.Counting.{Frame, framesWith, placesCounted, placesRepaired, refusals, ledgerOf, possible, Each, Possible}
+use Rattle.ledger.specs.Counting.{Frame, frames_with, places_counted, places_repaired, refusals, ledger_of, possible, Each, Possible}
 use Rattle.ledger.specs.declared.Ledger.{Ledger}
 use Rattle.ledger.proofs.Possible.{possible-counts}
 use Rattle.ledger.proofs.Rows.{row-all}
@@ -29,18 +29,18 @@ record Part (ed : Edition) (size : ℕ) (having : ℕ → ℕ) (places : ℕ) : 
   all-bytes : Each (λ f. Bytes f.1) frames
   by-edition : Each (λ f. f.0 ≡ ed) frames
   counted : length frames ≡ size
-  by_number : (m : ℕ) → framesWith m frames ≡ having m
-  repaired : placesRepaired frames ≡ places
+  by_number : (m : ℕ) → frames_with m frames ≡ having m
+  repaired : places_repaired frames ≡ places
 
 module _ (ed : Edition) where
   none : Part ed 0 (λ m. 0) 0
-  unfolding framesWith placesRepaired sum
+  unfolding frames_with places_repaired sum
   none = record { frames = []; all-bytes = tt; by-edition = tt; counted = refl; by_number = λ m. refl; repaired = refl }
 
   -- a frame more, judged so
   more : (v : Verdict) {k : ℕ} {having : ℕ → ℕ} {places : ℕ} → JudgedAs ed v → Part ed k having places
-      → Part ed (suc k) (λ m. digit (eqb v.number m) + having m) (placesCounted v + places)
-  unfolding framesWith placesRepaired sum
+      → Part ed (suc k) (λ m. digit (eqb v.number m) + having m) (places_counted v + places)
+  unfolding frames_with places_repaired sum
   more v j p =
       record {
         frames = (ed, j.frame) ∷ p.frames;
@@ -48,7 +48,7 @@ module _ (ed : Edition) where
         by-edition = (refl, p.by-edition);
         counted = ap suc p.counted;
         by_number = λ m. ap₂ (λ (w : Verdict) (n : ℕ). digit (eqb w.number m) + n) j.judged (p.by_number m);
-        repaired = ap₂ (λ (w : Verdict) (n : ℕ). placesCounted w + n) j.judged p.repaired;
+        repaired = ap₂ (λ (w : Verdict) (n : ℕ). places_counted w + n) j.judged p.repaired;
       }
 
   -- the same numbers, said in another way
@@ -78,14 +78,14 @@ module _ (ed : Edition) where
   refused : (n r : ℕ) → 0 < n → n ≤ 9 → Part ed r (λ m. r * digit (eqb n m)) 0
   refused n zero h l = same none refl (λ m. omega arith) refl
   refused n (suc r) h l =
-      same (more (verdictRefused n) ((every-verdict ed).refused-some n h l) (refused n r h l)) refl (λ m. omega arith)
+      same (more (verdict_refused n) ((every-verdict ed).refused-some n h l) (refused n r h l)) refl (λ m. omega arith)
       (ap (λ (t : Bool). cond t 0 0 + 0) (ne_eqb n 0 (λ e. omega arith)))
 
   -- as many accepted frames, with so many places
   accepted : (a p : ℕ) → p ≤ 8 * a → Part ed a (λ m. a * digit (eqb 0 m)) p
   accepted zero p h = same none refl (λ m. omega arith) (omega arith)
   accepted (suc a) p h =
-      same (more (verdictAccepted (min 8 p)) ((every-verdict ed).accepted-some (min 8 p) (omega arith)) (accepted a (p - min 8 p) (omega arith))) refl
+      same (more (verdict_accepted (min 8 p)) ((every-verdict ed).accepted-some (min 8 p) (omega arith)) (accepted a (p - min 8 p) (omega arith))) refl
       (λ m. omega arith) (omega arith)
 
   -- refusals from n on, as often as the list says
@@ -143,12 +143,12 @@ module _ (ed : Edition) where
   accepted-at rs a = omega arith
 
   pub given : (l : Ledger) → length l.refused ≡ 9 → possible l ≡ true → (g : Possible l) × Each (λ f. f.0 ≡ ed) g.frames
-  unfolding up_from ledgerOf
+  unfolding up_from ledger_of
   given l nine ok =
       let c = possible-counts l ok in
       let p = both (refused_all l.refused 1 (omega arith) (omega arith)) (accepted l.accepted l.repaired c.eight) in
-      let numbers : map (λ n. framesWith n p.frames) refusals ≡ l.refused =
-      map-from (λ n. framesWith n p.frames) (λ n. get_or l.refused (n - 1) 0) 9 1 (omega arith) (λ n h. p.by_number n ∙ refused-at l.refused l.accepted n h)
+      let numbers : map (λ n. frames_with n p.frames) refusals ≡ l.refused =
+      map-from (λ n. frames_with n p.frames) (λ n. get_or l.refused (n - 1) 0) 9 1 (omega arith) (λ n h. p.by_number n ∙ refused-at l.refused l.accepted n h)
       ∙ row-all l.refused 9 nine in (
         record {
           frames = p.frames;

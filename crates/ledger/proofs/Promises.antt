@@ -9,8 +9,8 @@ use lib.Dec.{eqb}
 use lib.ListN.{length, replicate}
 use borrow.Author.Tests.{eqb-true, eqb-false}
 use Rattle.frame.specs.declared.Edition.TheVariants.{First}
-use Rattle.ledger.specs.Counting.{Frame, ledgerOf, mostFrames, Possible, possible, fresh, count_of, countedIn}
-use Rattle.ledger.specs.Report.{numbersOf, ledgerReport, lengthNumber, length_of, printNumber, printOf, notReport, parseOf}
+use Rattle.ledger.specs.Counting.{Frame, ledger_of, most_frames, Possible, possible, fresh, count_of, counted_in}
+use Rattle.ledger.specs.Report.{numbers_of, ledger_report, length_number, length_of, print_number, print_of, not_report, parse_of}
 use Rattle.ledger.specs.Worked.{longest}
 use Rattle.ledger.specs.Promises.{Sized, DayLedger, LedgerReports, LedgerNumbers}
 use Rattle.ledger.specs.declared.Ledger.{Ledger}
@@ -19,14 +19,14 @@ use Rattle.ledger.proofs.Lists.{list-possible, list-nine, list-none}
 use Rattle.ledger.proofs.Counted.{count-order, answer-impossible, answer-full, answer-counted, list_counted, list_full, list-stays, counted-append, fresh-counted}
 use Rattle.ledger.proofs.Given.{given}
 use Rattle.ledger.proofs.Reports.{twelve-numbers, ledger-numbers, numbers-ledger, length-impossible, length-possible, print-order, parse-print, print-parse, settled, apart, report-length, print-impossible, print-other-size, print-accepted, printed, unchanged}
-use Rattle.ledger.proofs.Worked.{two-pieces, no_frames, least-met, longest-passes, longest-nine, longest-size}
+use Rattle.ledger.proofs.Worked.{two-pieces, no-frames, least-met, longest-passes, longest-nine, longest-size}
 
 pub listed-passes : (l : Ledger) → Possible l → possible l ≡ true
 listed-passes l g = ap possible (sym g.gives) ∙ list-possible g.frames g.few
 
-stays : (fs gs : List Frame) → length fs ≡ mostFrames → countedIn fresh (fs ++ gs) ≡ ledgerOf fs
+stays : (fs gs : List Frame) → length fs ≡ most_frames → counted_in fresh (fs ++ gs) ≡ ledger_of fs
 stays fs gs h =
-    counted-append fresh fs gs ∙ ap (λ (l : Ledger). countedIn l gs) (fresh-counted fs (omega arith)) ∙ list-stays fs gs h
+    counted-append fresh fs gs ∙ ap (λ (l : Ledger). counted_in l gs) (fresh-counted fs (omega arith)) ∙ list-stays fs gs h
 
 impossible : (l : Ledger) (f : Frame) → Sized l → (Possible l → ⊥) → count_of l f ≡ record { number = 18; ledger = l }
 impossible l f nine n = go (possible l) refl
@@ -41,14 +41,14 @@ number_of a = a.number
 -- a possible ledger is answered with 19 or 0
 impossible-only : (l : Ledger) (f : Frame) → (count_of l f).number ≡ 18 → Possible l → ⊥
 unfolding number_of
-impossible-only l f e g = go (eqb l.seen mostFrames) refl
+impossible-only l f e g = go (eqb l.seen most_frames) refl
   where
     ok : possible l ≡ true
     ok = listed-passes l g
 
-    go : (t : Bool) → eqb l.seen mostFrames ≡ t → ⊥
-    go true s = let z = ap number_of (answer-full l f ok (eqb-true l.seen mostFrames s)) in omega arith
-    go false s = let z = ap number_of (answer-counted l f ok (eqb-false l.seen mostFrames s)) in omega arith
+    go : (t : Bool) → eqb l.seen most_frames ≡ t → ⊥
+    go true s = let z = ap number_of (answer-full l f ok (eqb-true l.seen most_frames s)) in omega arith
+    go false s = let z = ap number_of (answer-counted l f ok (eqb-false l.seen most_frames s)) in omega arith
 
 pub day-ledger : DayLedger
 day-ledger =
@@ -71,37 +71,37 @@ day-ledger =
 listed-sized : (l : Ledger) → Possible l → Sized l
 listed-sized l g = subst Sized g.gives (list-nine g.frames)
 
-printed-read : (l : Ledger) → Possible l → parseOf (ledgerReport l) ≡ record { number = 0; ledger = l }
+printed-read : (l : Ledger) → Possible l → parse_of (ledger_report l) ≡ record { number = 0; ledger = l }
 printed-read l g = parse-print l (listed-sized l g) (listed-passes l g)
 
-read-printed : (s : List ℕ) → (parseOf s).number ≡ 0 → Possible (parseOf s).ledger × (ledgerReport (parseOf s).ledger ≡ s)
-read-printed s e = let r = print-parse s e in ((given First (parseOf s).ledger r.1.0 r.0).0, r.1.1)
+read-printed : (s : List ℕ) → (parse_of s).number ≡ 0 → Possible (parse_of s).ledger × (ledger_report (parse_of s).ledger ≡ s)
+read-printed s e = let r = print-parse s e in ((given First (parse_of s).ledger r.1.0 r.0).0, r.1.1)
 
-refused-if-none : (s : List ℕ) → ((l : Ledger) → Possible l → ledgerReport l ≢ s) → parseOf s ≡ notReport
+refused-if-none : (s : List ℕ) → ((l : Ledger) → Possible l → ledger_report l ≢ s) → parse_of s ≡ not_report
 refused-if-none s n = go (settled s)
   where
-    go : ((parseOf s).number ≡ 0) ⊎ (parseOf s ≡ notReport) → parseOf s ≡ notReport
-    go (inl e) = let r = read-printed s e in absurd (n (parseOf s).ledger r.0 r.1)
+    go : ((parse_of s).number ≡ 0) ⊎ (parse_of s ≡ not_report) → parse_of s ≡ not_report
+    go (inl e) = let r = read-printed s e in absurd (n (parse_of s).ledger r.0 r.1)
     go (inr e) = e
 
-none-if-refused : (s : List ℕ) → (parseOf s).number ≡ 18 → (l : Ledger) → Possible l → ledgerReport l ≢ s
+none-if-refused : (s : List ℕ) → (parse_of s).number ≡ 18 → (l : Ledger) → Possible l → ledger_report l ≢ s
 unfolding number_of
-none-if-refused s e l g same = let z = ap number_of (sym (ap parseOf same) ∙ printed-read l g) in omega arith
+none-if-refused s e l g same = let z = ap number_of (sym (ap parse_of same) ∙ printed-read l g) in omega arith
 
-printed-whole : (l : Ledger) (out : List ℕ) → Possible l → length out ≡ length (ledgerReport l) → (printNumber l (length out) ≡ 0) × (printOf l out ≡ ledgerReport l)
+printed-whole : (l : Ledger) (out : List ℕ) → Possible l → length out ≡ length (ledger_report l) → (print_number l (length out) ≡ 0) × (print_of l out ≡ ledger_report l)
 printed-whole l out g e = let n = print-accepted l (length out) (listed-passes l g) e in (n, printed l out n)
 
-not-printed : (l : Ledger) (n : ℕ) → Sized l → (Possible l → ⊥) → printNumber l n ≡ 18
+not-printed : (l : Ledger) (n : ℕ) → Sized l → (Possible l → ⊥) → print_number l n ≡ 18
 not-printed l n nine none = go (possible l) refl
   where
-    go : (t : Bool) → possible l ≡ t → printNumber l n ≡ 18
+    go : (t : Bool) → possible l ≡ t → print_number l n ≡ 18
     go true e = absurd (none (given First l nine e).0)
     go false e = print-impossible l n e
 
-not-measured : (l : Ledger) → Sized l → (Possible l → ⊥) → (lengthNumber l ≡ 18) × (length_of l ≡ 0)
+not-measured : (l : Ledger) → Sized l → (Possible l → ⊥) → (length_number l ≡ 18) × (length_of l ≡ 0)
 not-measured l nine none = go (possible l) refl
   where
-    go : (t : Bool) → possible l ≡ t → (lengthNumber l ≡ 18) × (length_of l ≡ 0)
+    go : (t : Bool) → possible l ≡ t → (length_number l ≡ 18) × (length_of l ≡ 0)
     go true e = absurd (none (given First l nine e).0)
     go false e = length-impossible l e
 
@@ -126,13 +126,13 @@ ledger-reports =
       least-met = least-met;
       most-met = ((given First longest longest-nine longest-passes).0, longest-size);
       two-pieces = two-pieces;
-      no_frames = no_frames;
+      no-frames = no-frames;
     }
 
 -- ---- the numbers
 
-zeros : numbersOf fresh ≡ replicate 12 0
-unfolding numbersOf
+zeros : numbers_of fresh ≡ replicate 12 0
+unfolding numbers_of
 zeros = refl
 
 pub ledger-as-numbers : LedgerNumbers

@@ -4,8 +4,8 @@ use Rattle.std.specs.Prelude.{List, [], ◌∷◌, ℕ}
 use Rattle.ledger.specs.declared.Ledger.{Ledger}
 
 -- `seen 2`, `refused 1 1`, `refused 2 0` and so on to `refused 9 0`, `accepted 1`, `repaired 0`
-unfoldable pub twoPieces : List ℕ
-twoPieces =
+unfoldable pub two_pieces : List ℕ
+two_pieces =
     115 ∷ 101 ∷ 101 ∷ 110 ∷ 32 ∷ 50 ∷ 10
     ∷ 114 ∷ 101 ∷ 102 ∷ 117 ∷ 115 ∷ 101 ∷ 100 ∷ 32 ∷ 49 ∷ 32 ∷ 49 ∷ 10
     ∷ 114 ∷ 101 ∷ 102 ∷ 117 ∷ 115 ∷ 101 ∷ 100 ∷ 32 ∷ 50 ∷ 32 ∷ 48 ∷ 10
@@ -21,8 +21,8 @@ twoPieces =
     ∷ []
 
 -- the same with nothing seen
-unfoldable pub noFrames : List ℕ
-noFrames =
+unfoldable pub no_frames : List ℕ
+no_frames =
     115 ∷ 101 ∷ 101 ∷ 110 ∷ 32 ∷ 48 ∷ 10
     ∷ 114 ∷ 101 ∷ 102 ∷ 117 ∷ 115 ∷ 101 ∷ 100 ∷ 32 ∷ 49 ∷ 32 ∷ 48 ∷ 10
     ∷ 114 ∷ 101 ∷ 102 ∷ 117 ∷ 115 ∷ 101 ∷ 100 ∷ 32 ∷ 50 ∷ 32 ∷ 48 ∷ 10

@@ -1,7 +1,7 @@
 // Counting frames into a ledger: one frame, the frames of an input, and a turn of the program.
 ghost use Rattle.std.specs.Prelude.{◌≡◌};
-ghost use Rattle.ledger.specs.Counting.{count_of, countedIn};
-ghost use Rattle.ledger_input.specs.Input.{allFrames, turnAfter};
+ghost use Rattle.ledger.specs.Counting.{count_of, counted_in};
+ghost use Rattle.ledger_input.specs.Input.{all_frames, turn_after};
 
 use frame::Edition;
 use ledger::{Ledger, LedgerAnswer};
@@ -26,7 +26,7 @@ pub fn count(ledger: Ledger, edition: Edition, frame: &[u8]) -> LedgerAnswer
 
 // The ledger after all frames of an input, 26 bytes each, the last one perhaps shorter.
 fn count_frames(ledger: Ledger, edition: Edition, input: &[u8]) -> Ledger
-    ensures { result ≡ countedIn ledger (allFrames edition input.now) }
+    ensures { result ≡ counted_in ledger (all_frames edition input.now) }
 {
     let mut counted = ledger;
     let mut start = 0;
@@ -40,7 +40,7 @@ fn count_frames(ledger: Ledger, edition: Edition, input: &[u8]) -> Ledger
 
 // The turn after another, in which these bytes were read.
 pub fn count_turn(edition: Edition, before: LedgerTurn, input: &[u8]) -> LedgerTurn
-    ensures { result ≡ turnAfter edition before input.now }
+    ensures { result ≡ turn_after edition before input.now }
 {
     let ledger = count_frames(before.ledger, edition, input);
     if input.len() < before.wanted {

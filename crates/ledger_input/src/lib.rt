@@ -1,7 +1,7 @@
 // The ledger of an input, in turns: a part of the input is read, its frames are counted, and so on until nothing is left to read. The rules are in specs/;
 // here are the numbers of a turn, and `ledger_counter` makes one.
 ghost use Rattle.std.specs.Prelude.{◌≡◌};
-ghost use Rattle.ledger_input.specs.Input.{start, wantedAt};
+ghost use Rattle.ledger_input.specs.Input.{start, wanted_at};
 
 use ledger::Ledger;
 
@@ -14,7 +14,7 @@ pub struct LedgerTurn {
 
 // How many bytes are read after so many frames: 2,520 frames of 26 bytes, or those that are left to 4,000,000.
 pub fn wanted_at(seen: u64) -> usize
-    ensures { result ≡ wantedAt seen }
+    ensures { result ≡ wanted_at seen }
 {
     if seen > 4000000 {
         return 0;

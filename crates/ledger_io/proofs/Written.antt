@@ -8,25 +8,25 @@ use native.Mathlib.Omega.{arith}
 use lib.ListN.{length, take, drop, length-take}
 use Rattle.frame.specs.declared.Edition.{Edition}
 use Rattle.ledger.specs.Counting.{possible}
-use Rattle.ledger.specs.Report.{ledgerReport, length_of, printOf}
+use Rattle.ledger.specs.Report.{ledger_report, length_of, print_of}
 use Rattle.ledger.specs.declared.Ledger.{Ledger}
 use Rattle.ledger.proofs.Reports.{length-impossible, length-possible, report-length, print-impossible, print-accepted, printed, unchanged}
-use Rattle.ledger_input.specs.Input.{Standing, Ahead, withReport}
+use Rattle.ledger_input.specs.Input.{Standing, Ahead, with_report}
 use Rattle.ledger_input.specs.declared.LedgerTurn.{LedgerTurn}
 use Rattle.ledger_input.proofs.Turns.{ahead}
 use Rattle.ledger_io.specs.Reading.{TurnMade}
 
 module _ (l : Ledger) (nine : length l.refused ≡ 9) where
-  pub report-put : (text v : List ℕ) (bytes : ℕ) → 203 ≤ length text → bytes ≡ length_of l → v ≡ printOf l (take bytes text) → v ++ drop bytes text ≡ withReport l text
-  unfolding withReport
+  pub report-put : (text v : List ℕ) (bytes : ℕ) → 203 ≤ length text → bytes ≡ length_of l → v ≡ print_of l (take bytes text) → v ++ drop bytes text ≡ with_report l text
+  unfolding with_report
   report-put text v bytes room e f = go (possible l) refl
     where
-      go : (t : Bool) → possible l ≡ t → v ++ drop bytes text ≡ withReport l text
+      go : (t : Bool) → possible l ≡ t → v ++ drop bytes text ≡ with_report l text
       go true p =
-          let size : bytes ≡ length (ledgerReport l) = e ∙ (length-possible l p).1 in
+          let size : bytes ≡ length (ledger_report l) = e ∙ (length-possible l p).1 in
           let short = (report-length l nine p).1 in
-          let fits : length (take bytes text) ≡ length (ledgerReport l) = length-take bytes text ∙ omega arith in
-          let whole : v ≡ ledgerReport l = f ∙ printed l (take bytes text) (print-accepted l (length (take bytes text)) p fits) in
+          let fits : length (take bytes text) ≡ length (ledger_report l) = length-take bytes text ∙ omega arith in
+          let whole : v ≡ ledger_report l = f ∙ printed l (take bytes text) (print-accepted l (length (take bytes text)) p fits) in
           rw (whole, size, p)
       go false p =
           let none : bytes ≡ 0 = e ∙ (length-impossible l p).1 in

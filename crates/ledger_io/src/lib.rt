@@ -2,7 +2,7 @@
 // `ledger_counter`, and the text in `ledger_printer`; here is only the reading and writing, 65,520 bytes at a time, so that the system is asked seldom.
 ghost use Rattle.std.specs.Prelude.{◌≡◌, ◌≤◌, length};
 ghost use Rattle.ledger.specs.Report.{length_of};
-ghost use Rattle.ledger_input.specs.Input.{withReport};
+ghost use Rattle.ledger_input.specs.Input.{with_report};
 ghost use Rattle.ledger_io.specs.Reading.{TurnMade};
 
 use frame::Edition;
@@ -23,7 +23,7 @@ fn next(edition: Edition, before: LedgerTurn, input: &mut [u8]) -> LedgerTurn
 fn put_report(ledger: Ledger, text: &mut [u8]) -> usize
     requires { 203 ≤ length text.old }
     ensures count { result ≡ length_of ledger }
-    ensures text { text.new ≡ withReport ledger text.old }
+    ensures text { text.new ≡ with_report ledger text.old }
 {
     let bytes = ledger_printer::report_length(ledger).bytes;
     ledger_printer::print(ledger, &mut text[..bytes]);

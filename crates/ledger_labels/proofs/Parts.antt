@@ -8,7 +8,7 @@ use lib.ListN.{length, take, drop, get_or, length-append}
 use lib.Seq.{take_at, drop-append-add}
 use Rattle.ledger.specs.Report.{labels}
 use Rattle.ledger.proofs.Reports.{twelve-labels}
-use Rattle.ledger_labels.specs.Labels.{labelText, labelStart}
+use Rattle.ledger_labels.specs.Labels.{label_text, label_start}
 
 -- ---- any texts, end to end
 
@@ -37,41 +37,41 @@ start-within (t ∷ ts) (suc i) = omega (arith, length-append t (flatten (take i
 
 -- ---- the labels
 
-pub length-text : length labelText ≡ 113
-unfolding labelText labels flatten
+pub length-text : length label_text ≡ 113
+unfolding label_text labels flatten
 length-text = refl
 
 -- label i stands from s to e
-module _ {i s e : ℕ} (h : i < 12) (from : s ≡ labelStart i) (to : e ≡ labelStart (i + 1)) where
+module _ {i s e : ℕ} (h : i < 12) (from : s ≡ label_start i) (to : e ≡ label_start (i + 1)) where
   label-size : e ≡ s + length (get_or labels i [])
-  unfolding labelStart
+  unfolding label_start
   label-size =
-      let next : labelStart (i + 1) ≡ labelStart i + length (get_or labels i []) = rw add-one (start-next labels i (omega (arith, twelve-labels))) in
+      let next : label_start (i + 1) ≡ label_start i + length (get_or labels i []) = rw add-one (start-next labels i (omega (arith, twelve-labels))) in
       omega (arith, from, to)
 
   pub label-order : s ≤ e
   label-order = omega (arith, label-size)
 
   pub label_inside : e ≤ 113
-  unfolding labelStart labelText
+  unfolding label_start label_text
   label_inside = omega (arith, start-within labels (i + 1), length-text)
 
-  pub label-part : (text : List ℕ) → text ≡ labelText → take (e - s) (drop s text) ≡ get_or labels i []
-  unfolding labelStart labelText
+  pub label-part : (text : List ℕ) → text ≡ label_text → take (e - s) (drop s text) ≡ get_or labels i []
+  unfolding label_start label_text
   label-part text t =
       let size : e - s ≡ length (get_or labels i []) = omega (arith, label-size) in
       rw (t, size, from) (text_at labels i (omega (arith, twelve-labels)))
 
 -- ---- a row of the places where they begin
 
-abbrev pub startsFrom : (i n : ℕ) → List ℕ
-startsFrom i zero = []
-startsFrom i (suc n) = labelStart i ∷ startsFrom (suc i) n
+abbrev pub starts_from : (i n : ℕ) → List ℕ
+starts_from i zero = []
+starts_from i (suc n) = label_start i ∷ starts_from (suc i) n
 
-starts_from : (i n j : ℕ) → j < n → get_or (startsFrom i n) j 0 ≡ labelStart (i + j)
-starts_from i zero j h = absurd (omega arith)
-starts_from i (suc n) zero h = let e : i + 0 ≡ i = omega arith in rw e
-starts_from i (suc n) (suc j) h = let e : suc i + j ≡ i + suc j = omega arith in starts_from (suc i) n j (omega arith) ∙ ap labelStart e
+starts-from : (i n j : ℕ) → j < n → get_or (starts_from i n) j 0 ≡ label_start (i + j)
+starts-from i zero j h = absurd (omega arith)
+starts-from i (suc n) zero h = let e : i + 0 ≡ i = omega arith in rw e
+starts-from i (suc n) (suc j) h = let e : suc i + j ≡ i + suc j = omega arith in starts-from (suc i) n j (omega arith) ∙ ap label_start e
 
-pub start-in : (starts : List ℕ) → starts ≡ startsFrom 0 13 → (i : ℕ) → i ≤ 12 → get_or starts i 0 ≡ labelStart i
-start-in starts e i h = let z : 0 + i ≡ i = omega arith in ap (λ (s : List ℕ). get_or s i 0) e ∙ starts_from 0 13 i (omega arith) ∙ ap labelStart z
+pub start-in : (starts : List ℕ) → starts ≡ starts_from 0 13 → (i : ℕ) → i ≤ 12 → get_or starts i 0 ≡ label_start i
+start-in starts e i h = let z : 0 + i ≡ i = omega arith in ap (λ (s : List ℕ). get_or s i 0) e ∙ starts-from 0 13 i (omega arith) ∙ ap label_start z

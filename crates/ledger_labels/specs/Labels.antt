@@ -3,9 +3,9 @@ use mathlib.Core.List.{List, flatten}
 use Rattle.std.specs.Prelude.{ℕ, length, take}
 use Rattle.ledger.specs.Report.{labels}
 
-unfoldable pub labelText : List ℕ
-labelText = flatten labels
+unfoldable pub label_text : List ℕ
+label_text = flatten labels
 
 -- where label i begins; that of 12 is where the last one ends
-unfoldable pub labelStart : ℕ → ℕ
-labelStart i = length (flatten (take i labels))
+unfoldable pub label_start : ℕ → ℕ
+label_start i = length (flatten (take i labels))

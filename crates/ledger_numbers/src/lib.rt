@@ -1,15 +1,15 @@
 // The numbers of a ledger: whether some list of frames gives them, a frame more, and the 12 of them in the order of the report.
 ghost use Rattle.std.specs.Prelude.{◌≡◌, true, ◌≤◌, min, length};
 ghost use Rattle.bits.specs.Layout.{sum};
-ghost use Rattle.ledger.specs.Counting.{placesCounted, possible, withVerdict};
-ghost use Rattle.ledger.specs.Report.{numbersOf, ledgerFrom};
+ghost use Rattle.ledger.specs.Counting.{places_counted, possible, with_verdict};
+ghost use Rattle.ledger.specs.Report.{numbers_of, ledger_from};
 
 use frame::Verdict;
 use ledger::Ledger;
 
 // The 12 numbers of a ledger, in the order of its report.
 pub fn numbers_of(ledger: Ledger) -> [u64; 12]
-    ensures { result ≡ numbersOf ledger }
+    ensures { result ≡ numbers_of ledger }
 {
     let refused = ledger.refused;
     [
@@ -31,7 +31,7 @@ pub fn numbers_of(ledger: Ledger) -> [u64; 12]
 // The ledger of 12 numbers. The size is required: the callers have tested it.
 pub fn ledger_from(numbers: &[u64]) -> Ledger
     requires { length numbers.now ≡ 12 }
-    ensures { result ≡ ledgerFrom numbers.now }
+    ensures { result ≡ ledger_from numbers.now }
 {
     Ledger {
         seen: numbers[0],
@@ -81,7 +81,7 @@ pub fn possible(ledger: Ledger) -> bool
 
 // The repaired places of an accepted frame, and none of a refused one.
 fn places_counted(verdict: Verdict) -> u8
-    ensures { result ≡ placesCounted verdict }
+    ensures { result ≡ places_counted verdict }
 {
     let places = verdict.repaired;
     if verdict.number != 0 {
@@ -95,7 +95,7 @@ fn places_counted(verdict: Verdict) -> u8
 pub fn with_verdict(ledger: Ledger, verdict: Verdict) -> Ledger
     requires ledger_value { possible ledger ≡ true }
     requires number_bound { verdict.number ≤ 9 }
-    ensures { result ≡ withVerdict ledger verdict }
+    ensures { result ≡ with_verdict ledger verdict }
 {
     let mut refused = ledger.refused;
     let places = places_counted(verdict) as u64;

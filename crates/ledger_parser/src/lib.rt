@@ -1,8 +1,8 @@
 // The reader of a printed report, strictly from the front: a line for each label, and nothing behind the last.
 ghost use Rattle.std.specs.Prelude.{◌≡◌, cond, [], ◌<◌, length, get_or};
 ghost use Rattle.std.proofs.Math.Option.{none, some};
-ghost use Rattle.ledger.specs.Report.{labels, line_at, numbersIn, notReport, parseOf};
-ghost use Rattle.ledger_labels.specs.Labels.{labelText};
+ghost use Rattle.ledger.specs.Report.{labels, line_at, numbers_in, not_report, parse_of};
+ghost use Rattle.ledger_labels.specs.Labels.{label_text};
 
 use decimals::Found;
 use ledger::{Ledger, LedgerAnswer};
@@ -28,7 +28,7 @@ fn read_labelled(label: &[u8], text: &[u8]) -> Found
 
 // The same with label i of the labels' text.
 fn read_line(all: &[u8], i: usize, text: &[u8]) -> Found
-    requires all_value { all.now ≡ labelText }
+    requires all_value { all.now ≡ label_text }
     requires i_bound { i < 12 }
     ensures { result ≡ line_at (get_or labels i []) text.now }
 {
@@ -40,7 +40,7 @@ fn read_line(all: &[u8], i: usize, text: &[u8]) -> Found
 // The numbers of the 12 lines, and whether the text is these lines and nothing else.
 fn read_numbers(text: &[u8], numbers: &mut [u64]) -> bool
     requires { length numbers.old ≡ 12 }
-    ensures { numbersIn labels text.now ≡ cond result (some numbers.new) none }
+    ensures { numbers_in labels text.now ≡ cond result (some numbers.new) none }
 {
     let all = ledger_labels::text();
     let mut at = 0;
@@ -59,7 +59,7 @@ fn read_numbers(text: &[u8], numbers: &mut [u64]) -> bool
 
 // The answer to what is no report of a possible ledger.
 fn not_report() -> LedgerAnswer
-    ensures { result ≡ notReport }
+    ensures { result ≡ not_report }
 {
     LedgerAnswer {
         number: 18,
@@ -69,7 +69,7 @@ fn not_report() -> LedgerAnswer
 
 // The ledger whose report the text is.
 pub fn parse(text: &[u8]) -> LedgerAnswer
-    ensures { result ≡ parseOf text.now }
+    ensures { result ≡ parse_of text.now }
 {
     let mut numbers = [0; 12];
     if !read_numbers(text, &mut numbers) {

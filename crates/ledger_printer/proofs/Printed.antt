@@ -14,15 +14,15 @@ use Rattle.decimals.specs.Put.{Put}
 use Rattle.decimals.proofs.Decimals.{length-word}
 use Rattle.decimals.proofs.Stores.{put_then, sets-start}
 use Rattle.ledger.specs.Counting.{possible}
-use Rattle.ledger.specs.Report.{labels, numbersOf, labelledLine, labelledLines, ledgerReport, printNumber, printOf}
+use Rattle.ledger.specs.Report.{labels, numbers_of, labelled_line, labelled_lines, ledger_report, print_number, print_of}
 use Rattle.ledger.specs.declared.Ledger.{Ledger}
-use Rattle.ledger.proofs.Reports.{digitCount, length-twelve, print-impossible, print-other-size, print-accepted, printed, unchanged}
+use Rattle.ledger.proofs.Reports.{digit_count, length-twelve, print-impossible, print-other-size, print-accepted, printed, unchanged}
 
 -- ---- digits counted
 
 -- with the numbers before i; the labels and line feeds from the first on
 pub record Counted (ns : List ℕ) (total i : ℕ) : Type 0 where
-  pub all : total + sum (map digitCount (drop i ns)) ≡ length (labelledLines labels ns)
+  pub all : total + sum (map digit_count (drop i ns)) ≡ length (labelled_lines labels ns)
   pub small : total ≤ 125 + 20 * i
 
 pub counted_none : (ns : List ℕ) → length ns ≡ 12 → Counted ns 125 0
@@ -32,12 +32,12 @@ module _ {ns : List ℕ} {total i : ℕ} (w : Counted ns total i) where
   pub counted_next : (d : ℕ) → i < length ns → get_or ns i 0 < 18446744073709551616 → d ≡ length (decimal (get_or ns i 0)) → Counted ns (total + d) (i + 1)
   unfolding sum
   counted_next d h l e =
-      let next : sum (map digitCount (drop i ns)) ≡ digitCount (get_or ns i 0) + sum (map digitCount (drop (i + 1) ns)) = rw (add-one, drop-cons ns i 0 h) in
+      let next : sum (map digit_count (drop i ns)) ≡ digit_count (get_or ns i 0) + sum (map digit_count (drop (i + 1) ns)) = rw (add-one, drop-cons ns i 0 h) in
       record { all = omega (arith, w.all, next); small = omega (arith, w.small, length-word (get_or ns i 0) l) }
 
-  pub counted-all : length ns ≤ i → total ≡ length (labelledLines labels ns)
+  pub counted-all : length ns ≤ i → total ≡ length (labelled_lines labels ns)
   unfolding sum
-  counted-all h = let none : sum (map digitCount (drop i ns)) ≡ 0 = rw (drop_of_length-le ns {i = i} h) in omega (arith, w.all)
+  counted-all h = let none : sum (map digit_count (drop i ns)) ≡ 0 = rw (drop_of_length-le ns {i = i} h) in omega (arith, w.all)
 
 -- ---- a text stored byte by byte
 
@@ -52,7 +52,7 @@ stored_next l m s at i h e = ap (λ (x : List ℕ). set x (at + i) (get_or s i 0
 -- the first i lines are stored at the start of a buffer
 pub record Lined (ls : List (List ℕ)) (ns out₀ out : List ℕ) (at i : ℕ) : Type 0 where
   pub done : List ℕ
-  pub text : labelledLines ls ns ≡ done ++ labelledLines (drop i ls) (drop i ns)
+  pub text : labelled_lines ls ns ≡ done ++ labelled_lines (drop i ls) (drop i ns)
   pub stored : Put out₀ 0 done out at
 
 pub lined-none : (ls : List (List ℕ)) (ns out : List ℕ) → Lined ls ns out out 0 0
@@ -64,57 +64,57 @@ module _ {ls : List (List ℕ)} {ns out₀ out : List ℕ} {at i : ℕ} (w : Lin
 
   -- line i, and those behind it
   lined-rest : i < length ls → i < length ns
-      → labelledLines (drop i ls) (drop i ns) ≡ labelledLine (get_or ls i []) (get_or ns i 0) ++ labelledLines (drop (i + 1) ls) (drop (i + 1) ns)
-  unfolding labelledLines
+      → labelled_lines (drop i ls) (drop i ns) ≡ labelled_line (get_or ls i []) (get_or ns i 0) ++ labelled_lines (drop (i + 1) ls) (drop (i + 1) ns)
+  unfolding labelled_lines
   lined-rest h k = rw (add-one, drop-cons ls i [] h, drop-cons ns i 0 k)
 
-  pub lined-room : i < length ls → i < length ns → length out₀ ≡ length (labelledLines ls ns) → at + length (labelledLine (get_or ls i []) (get_or ns i 0)) ≤ length out
+  pub lined-room : i < length ls → i < length ns → length out₀ ≡ length (labelled_lines ls ns) → at + length (labelled_line (get_or ls i []) (get_or ns i 0)) ≤ length out
   lined-room h k e =
-      let line = labelledLine (get_or ls i []) (get_or ns i 0) in
-      let rest = labelledLines (drop (i + 1) ls) (drop (i + 1) ns) in
+      let line = labelled_line (get_or ls i []) (get_or ns i 0) in
+      let rest = labelled_lines (drop (i + 1) ls) (drop (i + 1) ns) in
       omega (arith, lined-length, w.stored.place, ap length (w.text ∙ ap (w.done ++◌) (lined-rest h k)), length-append w.done (line ++ rest), length-append line rest)
 
-  pub lined-next : (m : List ℕ) (j : ℕ) → i < length ls → i < length ns → Put out at (labelledLine (get_or ls i []) (get_or ns i 0)) m j → Lined ls ns out₀ m j (i + 1)
+  pub lined-next : (m : List ℕ) (j : ℕ) → i < length ls → i < length ns → Put out at (labelled_line (get_or ls i []) (get_or ns i 0)) m j → Lined ls ns out₀ m j (i + 1)
   lined-next m j h k put =
-      let line = labelledLine (get_or ls i []) (get_or ns i 0) in
+      let line = labelled_line (get_or ls i []) (get_or ns i 0) in
       record {
         done = w.done ++ line;
         text = w.text ∙ ap (w.done ++◌) (lined-rest h k) ∙ sym (append_assoc w.done line _);
         stored = put_then w.done line w.stored put;
       }
 
-  pub lined-all : length ls ≤ i → length out₀ ≡ length (labelledLines ls ns) → out ≡ labelledLines ls ns
-  unfolding labelledLines
+  pub lined-all : length ls ≤ i → length out₀ ≡ length (labelled_lines ls ns) → out ≡ labelled_lines ls ns
+  unfolding labelled_lines
   lined-all h e =
-      let whole : labelledLines ls ns ≡ w.done = w.text ∙ rw (drop_of_length-le ls {i = i} h) (append-nil w.done) in
+      let whole : labelled_lines ls ns ≡ w.done = w.text ∙ rw (drop_of_length-le ls {i = i} h) (append-nil w.done) in
       w.stored.text
       ∙ ap (sets out₀ 0) (sym whole)
-      ∙ sets-start out₀ (labelledLines ls ns) (omega arith)
-      ∙ ap (labelledLines ls ns ++◌) (drop_of_length-le out₀ {i = length (labelledLines ls ns)} (omega arith))
-      ∙ append-nil (labelledLines ls ns)
+      ∙ sets-start out₀ (labelled_lines ls ns) (omega arith)
+      ∙ ap (labelled_lines ls ns ++◌) (drop_of_length-le out₀ {i = length (labelled_lines ls ns)} (omega arith))
+      ∙ append-nil (labelled_lines ls ns)
 
 -- ---- what printing answers, and what it leaves in the buffer
 
 module _ (l : Ledger) (out : List ℕ) where
-  answer : (n : ℕ) → printNumber l (length out) ≡ n → (n ≡ 0 → ⊥) → (n ≡ printNumber l (length out)) × (out ≡ printOf l out)
+  answer : (n : ℕ) → print_number l (length out) ≡ n → (n ≡ 0 → ⊥) → (n ≡ print_number l (length out)) × (out ≡ print_of l out)
   answer n e z = (sym e, sym (unchanged l out (λ x. z (sym e ∙ x))))
 
-  pub answer-impossible : possible l ≡ false → (18 ≡ printNumber l (length out)) × (out ≡ printOf l out)
+  pub answer-impossible : possible l ≡ false → (18 ≡ print_number l (length out)) × (out ≡ print_of l out)
   answer-impossible e = answer 18 (print-impossible l (length out) e) (λ z. omega arith)
 
   -- the report's size was found from the numbers
-  module _ (ns : List ℕ) (size : ℕ) (possible-ledger : possible l ≡ true) (numbers : ns ≡ numbersOf l) (counted : size ≡ length (labelledLines labels ns)) where
-    report-text : labelledLines labels ns ≡ ledgerReport l
-    unfolding ledgerReport
-    report-text = ap (labelledLines labels) numbers
+  module _ (ns : List ℕ) (size : ℕ) (possible-ledger : possible l ≡ true) (numbers : ns ≡ numbers_of l) (counted : size ≡ length (labelled_lines labels ns)) where
+    report-text : labelled_lines labels ns ≡ ledger_report l
+    unfolding ledger_report
+    report-text = ap (labelled_lines labels) numbers
 
-    report-size : size ≡ length (ledgerReport l)
+    report-size : size ≡ length (ledger_report l)
     report-size = counted ∙ ap length report-text
 
-    pub answer-other-size : (length out ≡ size → ⊥) → (27 ≡ printNumber l (length out)) × (out ≡ printOf l out)
+    pub answer-other-size : (length out ≡ size → ⊥) → (27 ≡ print_number l (length out)) × (out ≡ print_of l out)
     answer-other-size z = answer 27 (print-other-size l (length out) possible-ledger (λ e. z (e ∙ sym report-size))) (λ z. omega arith)
 
-    pub answer-printed : (m : List ℕ) → length out ≡ size → m ≡ labelledLines labels ns → (0 ≡ printNumber l (length out)) × (m ≡ printOf l out)
+    pub answer-printed : (m : List ℕ) → length out ≡ size → m ≡ labelled_lines labels ns → (0 ≡ print_number l (length out)) × (m ≡ print_of l out)
     answer-printed m e text =
         let number = print-accepted l (length out) possible-ledger (e ∙ report-size) in
         (sym number, text ∙ report-text ∙ sym (printed l out number))

@@ -1,8 +1,8 @@
 // The printed report of a ledger: how many bytes it has, and its text.
 ghost use Rattle.std.specs.Prelude.{◌≡◌, [], ◌+◌, ◌≤◌, ◌<◌, length, get_or};
 ghost use Rattle.decimals.specs.Put.{Put};
-ghost use Rattle.ledger.specs.Report.{labels, labelledLine, labelledLines, lengthNumber, length_of, printNumber, printOf};
-ghost use Rattle.ledger_labels.specs.Labels.{labelText};
+ghost use Rattle.ledger.specs.Report.{labels, labelled_line, labelled_lines, length_number, length_of, print_number, print_of};
+ghost use Rattle.ledger_labels.specs.Labels.{label_text};
 
 use ledger::Ledger;
 
@@ -16,7 +16,7 @@ pub struct ReportLength {
 // How many bytes the report of 12 numbers has: 113 of labels, 12 line feeds and the digits.
 fn lines_length(numbers: &[u64]) -> usize
     requires { length numbers.now ≡ 12 }
-    ensures { result ≡ length (labelledLines labels numbers.now) }
+    ensures { result ≡ length (labelled_lines labels numbers.now) }
 {
     let mut total = 125;
     let mut i = 0;
@@ -42,10 +42,10 @@ fn put_text(out: &mut [u8], at: usize, text: &[u8]) -> usize
 
 // The line with label i of the labels' text, from place at on; the place after it.
 fn put_line(out: &mut [u8], at: usize, text: &[u8], i: usize, number: u64) -> usize
-    requires text_value { text.now ≡ labelText }
+    requires text_value { text.now ≡ label_text }
     requires i_bound { i < 12 }
-    requires number_in_bounds { at + length (labelledLine (get_or labels i []) number) ≤ length out.old }
-    ensures { Put out.old at (labelledLine (get_or labels i []) number) out.new result }
+    requires number_in_bounds { at + length (labelled_line (get_or labels i []) number) ≤ length out.old }
+    ensures { Put out.old at (labelled_line (get_or labels i []) number) out.new result }
 {
     let start = ledger_labels::start(i);
     let end = ledger_labels::start(i + 1);
@@ -57,8 +57,8 @@ fn put_line(out: &mut [u8], at: usize, text: &[u8], i: usize, number: u64) -> us
 // The lines of 12 numbers, which fill the buffer.
 fn put_lines(out: &mut [u8], numbers: &[u64])
     requires numbers_len { length numbers.now ≡ 12 }
-    requires out_len { length out.old ≡ length (labelledLines labels numbers.now) }
-    ensures { out.new ≡ labelledLines labels numbers.now }
+    requires out_len { length out.old ≡ length (labelled_lines labels numbers.now) }
+    ensures { out.new ≡ labelled_lines labels numbers.now }
 {
     let text = ledger_labels::text();
     let mut at = 0;
@@ -71,7 +71,7 @@ fn put_lines(out: &mut [u8], numbers: &[u64])
 
 // How many bytes the report of a ledger has.
 pub fn report_length(ledger: Ledger) -> ReportLength
-    ensures { result ≡ record { number = lengthNumber ledger; bytes = length_of ledger } }
+    ensures { result ≡ record { number = length_number ledger; bytes = length_of ledger } }
 {
     if !ledger_numbers::possible(ledger) {
         return ReportLength {
@@ -88,8 +88,8 @@ pub fn report_length(ledger: Ledger) -> ReportLength
 
 // The report of a ledger, in a buffer of its size: the refusal's number, or 0.
 pub fn print(ledger: Ledger, text: &mut [u8]) -> u8
-    ensures number { result ≡ printNumber ledger (length text.old) }
-    ensures text { text.new ≡ printOf ledger text.old }
+    ensures number { result ≡ print_number ledger (length text.old) }
+    ensures text { text.new ≡ print_of ledger text.old }
 {
     if !ledger_numbers::possible(ledger) {
         return 18;

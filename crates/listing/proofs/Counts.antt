@@ -2,7 +2,7 @@
 use mathlib.Core.Path.{◌≡◌, refl}
 use Prim.Native.Nat.{ℕ, suc, ◌+◌, ◌-◌, ◌*◌, ◌/◌, ◌%◌, ◌<◌, ◌≤◌, min}
 use native.Mathlib.Omega.{arith}
-use Rattle.listing.specs.Lines.{piece_size, pieceCount}
+use Rattle.listing.specs.Lines.{piece_size, piece_count}
 use Rattle.listing.specs.declared.Pieces.{Pieces}
 use Rattle.listing.specs.declared.Pieces.TheVariants.{Frames, MarkedFrames}
 
@@ -12,75 +12,75 @@ size-least MarkedFrames = omega arith
 
 -- ---- as the code counts, by a size that it has asked for: without a short last piece, and with one
 
-pub count-even : (p : Pieces) (n size : ℕ) → size ≡ piece_size p → n % size ≡ 0 → n / size ≡ pieceCount p n
-unfolding pieceCount
+pub count-even : (p : Pieces) (n size : ℕ) → size ≡ piece_size p → n % size ≡ 0 → n / size ≡ piece_count p n
+unfolding piece_count
 count-even Frames n size e h = let k : n % piece_size Frames ≡ 0 = rw e at h in rw e (omega arith)
 count-even MarkedFrames n size e h = let k : n % piece_size MarkedFrames ≡ 0 = rw e at h in rw e (omega arith)
 
-pub count-odd : (p : Pieces) (n size : ℕ) → size ≡ piece_size p → (n % size ≡ 0 → ⊥) → n / size + 1 ≡ pieceCount p n
-unfolding pieceCount
+pub count-odd : (p : Pieces) (n size : ℕ) → size ≡ piece_size p → (n % size ≡ 0 → ⊥) → n / size + 1 ≡ piece_count p n
+unfolding piece_count
 count-odd Frames n size e h = let k : n % piece_size Frames ≡ 0 → ⊥ = rw e at h in rw e (omega arith)
 count-odd MarkedFrames n size e h = let k : n % piece_size MarkedFrames ≡ 0 → ⊥ = rw e at h in rw e (omega arith)
 
 -- ---- how many there are at most and at least
 
-pub count_none : (p : Pieces) → pieceCount p 0 ≡ 0
-unfolding pieceCount
+pub count_none : (p : Pieces) → piece_count p 0 ≡ 0
+unfolding piece_count
 count_none Frames = refl
 count_none MarkedFrames = refl
 
-pub count-some : (p : Pieces) (n : ℕ) → 0 < n → 0 < pieceCount p n
-unfolding pieceCount
+pub count-some : (p : Pieces) (n : ℕ) → 0 < n → 0 < piece_count p n
+unfolding piece_count
 count-some Frames n h = omega arith
 count-some MarkedFrames n h = omega arith
 
-pub count_most : (p : Pieces) (n : ℕ) → pieceCount p n ≤ n
-unfolding pieceCount
+pub count_most : (p : Pieces) (n : ℕ) → piece_count p n ≤ n
+unfolding piece_count
 count_most Frames n = omega arith
 count_most MarkedFrames n = omega arith
 
 -- of more bytes not fewer
-pub count-more : (p : Pieces) (m n : ℕ) → m ≤ n → pieceCount p m ≤ pieceCount p n
-unfolding pieceCount
+pub count-more : (p : Pieces) (m n : ℕ) → m ≤ n → piece_count p m ≤ piece_count p n
+unfolding piece_count
 count-more Frames m n h = omega arith
 count-more MarkedFrames m n h = omega arith
 
 -- so many whole pieces, and perhaps more
-pub count-least : (p : Pieces) (n k : ℕ) → piece_size p * k ≤ n → k ≤ pieceCount p n
-unfolding pieceCount
+pub count-least : (p : Pieces) (n k : ℕ) → piece_size p * k ≤ n → k ≤ piece_count p n
+unfolding piece_count
 count-least Frames n k h = omega arith
 count-least MarkedFrames n k h = omega arith
 
 -- at most so many bytes
-pub count-within : (p : Pieces) (n k : ℕ) → n ≤ piece_size p * k → pieceCount p n ≤ k
-unfolding pieceCount
+pub count-within : (p : Pieces) (n k : ℕ) → n ≤ piece_size p * k → piece_count p n ≤ k
+unfolding piece_count
 count-within Frames n k h = omega arith
 count-within MarkedFrames n k h = omega arith
 
 -- so many whole pieces
-pub count-whole : (p : Pieces) (n k : ℕ) → n ≡ piece_size p * k → pieceCount p n ≡ k
-unfolding pieceCount
+pub count-whole : (p : Pieces) (n k : ℕ) → n ≡ piece_size p * k → piece_count p n ≡ k
+unfolding piece_count
 count-whole Frames n k h = omega arith
 count-whole MarkedFrames n k h = omega arith
 
 -- a whole piece and a part of one
-pub count-two : (p : Pieces) (n m : ℕ) → n ≡ piece_size p + m → 0 < m → m ≤ piece_size p → pieceCount p n ≡ 2
-unfolding pieceCount
+pub count-two : (p : Pieces) (n m : ℕ) → n ≡ piece_size p + m → 0 < m → m ≤ piece_size p → piece_count p n ≡ 2
+unfolding piece_count
 count-two Frames n m e h k = omega arith
 count-two MarkedFrames n m e h k = omega arith
 
 -- ---- the next piece
 
 -- after k pieces, of n bytes
-pub count-after : (p : Pieces) (k n : ℕ) → piece_size p * k ≤ n → k + pieceCount p (n - piece_size p * k) ≡ pieceCount p n
-unfolding pieceCount
+pub count-after : (p : Pieces) (k n : ℕ) → piece_size p * k ≤ n → k + piece_count p (n - piece_size p * k) ≡ piece_count p n
+unfolding piece_count
 count-after Frames k n h = omega arith
 count-after MarkedFrames k n h = omega arith
 
 -- a piece of n bytes that starts at a place, and may be cut short
 pub count_next : (p : Pieces) (start end n : ℕ) → start < n → end ≡ min (start + piece_size p) n
-    → pieceCount p (n - start) ≡ suc (pieceCount p (n - end))
-unfolding pieceCount
+    → piece_count p (n - start) ≡ suc (piece_count p (n - end))
+unfolding piece_count
 count_next Frames start end n h e = omega arith
 count_next MarkedFrames start end n h e = omega arith
 

@@ -4,11 +4,11 @@ use Rattle.std.specs.Prelude.{◌≡◌, List, [], ◌∷◌, ◌++◌, ℕ, zer
 use Rattle.decimals.specs.Decimal.{decimal}
 use Rattle.gf2.specs.Polynomial.{zeros}
 use Rattle.dsc.specs.Repair.{protected}
-use Rattle.dsc.specs.Marks.{repairBy}
+use Rattle.dsc.specs.Marks.{repair_by}
 use Rattle.frame.specs.Promises.{NotSafety}
-use Rattle.frame.specs.Read.{identificationIn}
+use Rattle.frame.specs.Read.{identification_in}
 use Rattle.frame.specs.declared.Edition.{Edition}
-use Rattle.listing.specs.Lines.{piece_size, frameIn, markingIn, verdictOf, lines, line_of, listingOf}
+use Rattle.listing.specs.Lines.{piece_size, frame_in, marking_in, verdict_of, lines, line_of, listing_of}
 use Rattle.listing.specs.declared.Pieces.{Pieces}
 use Rattle.listing.specs.declared.Pieces.TheVariants.{Frames, MarkedFrames}
 
@@ -17,28 +17,28 @@ unfoldable pub NoneSafety : Pieces → ℕ → List ℕ → Type 0
 NoneSafety p zero s = Unit {0}
 NoneSafety p (suc k) s =
     let f = take (piece_size p) s in
-    NotSafety (identificationIn (repairBy (markingIn p f) (frameIn p f)).word) × NoneSafety p k (drop (piece_size p) s)
+    NotSafety (identification_in (repair_by (marking_in p f) (frame_in p f)).word) × NoneSafety p k (drop (piece_size p) s)
 
 -- a marked frame beside the frame alone
 pub record MarkedListing (ed : Edition) : Type 0 where
   -- a frame with no mark on B17 to B203 is judged, and so listed, as the frame without marks
-  pub no-marks : (f m : List ℕ) → length f ≡ 26 → length m ≡ 26 → protected m ≡ zeros 187 → verdictOf ed MarkedFrames (f ++ m) ≡ verdictOf ed Frames f
+  pub no-marks : (f m : List ℕ) → length f ≡ 26 → length m ≡ 26 → protected m ≡ zeros 187 → verdict_of ed MarkedFrames (f ++ m) ≡ verdict_of ed Frames f
 
 pub record Listing (ed : Edition) (p : Pieces) : Type 0 where
   -- empty input gives `end 0`
-  pub empty : listingOf ed p [] ≡ 101 ∷ 110 ∷ 100 ∷ 32 ∷ 48 ∷ 10 ∷ []
+  pub empty : listing_of ed p [] ≡ 101 ∷ 110 ∷ 100 ∷ 32 ∷ 48 ∷ 10 ∷ []
   -- a short piece is refused with 1
-  pub short : (s : List ℕ) → length s < piece_size p → verdictOf ed p s ≡ record { number = 1; repaired = 0 }
+  pub short : (s : List ℕ) → length s < piece_size p → verdict_of ed p s ≡ record { number = 1; repaired = 0 }
   -- an accepted piece with t repaired places, and then a short one, give `1 0 t`, `2 1 -`, `end 2`: a clean frame and then five bytes are the case of t = 0
-  pub example : (f x : List ℕ) (t : ℕ) → length f ≡ piece_size p → verdictOf ed p f ≡ record { number = 0; repaired = t }
+  pub example : (f x : List ℕ) (t : ℕ) → length f ≡ piece_size p → verdict_of ed p f ≡ record { number = 0; repaired = t }
       → 0 < length x → length x < piece_size p
-      → listingOf ed p (f ++ x)
+      → listing_of ed p (f ++ x)
       ≡ (49 ∷ 32 ∷ 48 ∷ 32 ∷ (decimal t ++ 10 ∷ [])) ++ 50 ∷ 32 ∷ 49 ∷ 32 ∷ 45 ∷ 10 ∷ 101 ∷ 110 ∷ 100 ∷ 32 ∷ 50 ∷ 10 ∷ []
   -- the pieces may be listed in turns: those of a row of whole pieces, and then the rest, with the next number
   pub turns : (s t : List ℕ) (k j n : ℕ) → length s ≡ piece_size p * k → lines ed p (k + j) n (s ++ t) ≡ lines ed p k n s ++ lines ed p j (n + k) t
   -- what comes after piece 999,999 is not listed
-  pub stops : (s t : List ℕ) → length s ≡ piece_size p * 999999 → listingOf ed p (s ++ t) ≡ listingOf ed p s
+  pub stops : (s t : List ℕ) → length s ≡ piece_size p * 999999 → listing_of ed p (s ++ t) ≡ listing_of ed p s
   -- a line has at most 32 bytes
-  pub line-short : (n : ℕ) (s : List ℕ) → n < 18446744073709551616 → length (line_of n (verdictOf ed p s)) ≤ 32
+  pub line-short : (n : ℕ) (s : List ℕ) → n < 18446744073709551616 → length (line_of n (verdict_of ed p s)) ≤ 32
   -- which edition is named does not matter to pieces whose repaired identification is not 5 or 6
   pub alike : (other : Edition) (k n : ℕ) (s : List ℕ) → NoneSafety p k s → lines ed p k n s ≡ lines other p k n s

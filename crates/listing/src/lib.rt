@@ -1,7 +1,7 @@
 // The listing: a line of text for each piece of the input, and a last line with the count. The rules are in specs/; `listing_lines` and
 // `listing_writer` write it.
 ghost use Rattle.std.specs.Prelude.{◌≡◌, ◌+◌, ◌≤◌, min};
-ghost use Rattle.listing.specs.Lines.{piece_size, pieceCount};
+ghost use Rattle.listing.specs.Lines.{piece_size, piece_count};
 
 // What an input is made of.
 #[derive(Drop)]
@@ -24,7 +24,7 @@ pub fn piece_size(pieces: Pieces) -> usize
 
 // How many pieces are in n bytes, a short last piece counted.
 pub fn piece_count(pieces: Pieces, n: usize) -> usize
-    ensures { result ≡ pieceCount pieces n }
+    ensures { result ≡ piece_count pieces n }
 {
     let size = piece_size(pieces);
     if n % size == 0 {

@@ -2,7 +2,7 @@
 use Rattle.std.specs.Prelude.{◌≡◌, List, ℕ, ◌≤◌, length, take}
 use Rattle.frame.specs.declared.Edition.{Edition}
 use Rattle.listing.specs.declared.Pieces.{Pieces}
-use Rattle.listing_turns.specs.Turns.{turn_of, bufferAfter}
+use Rattle.listing_turns.specs.Turns.{turn_of, buffer_after}
 use Rattle.listing_turns.specs.declared.Turn.{Turn}
 
 -- the turn t after another: the bytes that were read, at most so many as were wanted, stand at the start of the input buffer; the answer and the text buffer,
@@ -11,4 +11,4 @@ pub record TurnMade (ed : Edition) (p : Pieces) (before : Turn) (input out₀ ou
   pub got : ℕ
   pub most : got ≤ before.wanted
   pub told : t ≡ turn_of ed p before.listed (take got input) (length out₀)
-  pub text : out ≡ bufferAfter ed p before.listed (take got input) out₀
+  pub text : out ≡ buffer_after ed p before.listed (take got input) out₀

@@ -2,14 +2,14 @@
 // for all lines at once, and the last line.
 ghost use Rattle.std.specs.Prelude.{◌≡◌, ◌+◌, ◌≤◌, length};
 ghost use Rattle.decimals.specs.Put.{Put};
-ghost use Rattle.listing.specs.Lines.{placesText, line_of, endCount, end_of};
+ghost use Rattle.listing.specs.Lines.{places_text, line_of, end_count, end_of};
 
 use frame::Verdict;
 
 // The repaired places, or `-`.
 fn put_places(out: &mut [u8], at: usize, verdict: Verdict) -> usize
     requires { at + 3 ≤ length out.old }
-    ensures { Put out.old at (placesText verdict) out.new result }
+    ensures { Put out.old at (places_text verdict) out.new result }
 {
     if verdict.number == 0 {
         return decimals::put_decimal(out, at, verdict.repaired as u64);
@@ -32,7 +32,7 @@ pub fn put_line(out: &mut [u8], at: usize, number: u64, verdict: Verdict) -> usi
 
 // The last line, at the start of the buffer; how many bytes it is. A buffer under 32 bytes is left as it is, and the answer is 0.
 pub fn end(count: u32, out: &mut [u8]) -> usize
-    ensures count { result ≡ endCount count (length out.old) }
+    ensures count { result ≡ end_count count (length out.old) }
     ensures text { out.new ≡ end_of count out.old }
 {
     if out.len() < 32 {

@@ -1,6 +1,6 @@
 // A turn of the listing, by the edition named and by what the input is made of: a part of the input as lines.
 ghost use Rattle.std.specs.Prelude.{◌≡◌, length};
-ghost use Rattle.listing_turns.specs.Turns.{turn_of, bufferAfter};
+ghost use Rattle.listing_turns.specs.Turns.{turn_of, buffer_after};
 
 use frame::Edition;
 use listing::Pieces;
@@ -16,7 +16,7 @@ pub fn list_piece(
     out: &mut [u8],
 ) -> Turn
     ensures told { result ≡ turn_of edition pieces listed part.now (length out.old) }
-    ensures text { out.new ≡ bufferAfter edition pieces listed part.now out.old }
+    ensures text { out.new ≡ buffer_after edition pieces listed part.now out.old }
 {
     let count = listing::piece_count(pieces, part.len());
     if !listing_turns::fits(listed, count, out.len()) {

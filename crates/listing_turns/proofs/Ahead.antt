@@ -9,17 +9,17 @@ use lib.Dec.{eqb, ltb}
 use lib.ListN.{length}
 use borrow.Author.Tests.{eqb-true, eqb-false, ltb-true, ltb-false}
 use Rattle.frame.specs.declared.Edition.{Edition}
-use Rattle.listing.specs.Lines.{pieceCount}
+use Rattle.listing.specs.Lines.{piece_count}
 use Rattle.listing.specs.declared.Pieces.{Pieces}
 use Rattle.listing.proofs.Counts.{count-some}
-use Rattle.listing_turns.specs.Turns.{turnBytes, fits, wantedAfter, turnDone, turnRefused, turn_of, Ahead}
+use Rattle.listing_turns.specs.Turns.{turn_bytes, fits, wanted_after, turn_done, turn_refused, turn_of, Ahead}
 use Rattle.listing_turns.specs.declared.Turn.{Turn}
 use Rattle.listing_turns.proofs.TurnSizes.{bytes_most, bytes-some, bytes-over}
 use Rattle.listing_turns.proofs.Room.{wanted-some, wanted-most, text-within}
 
 module _ (p : Pieces) where
   -- something is wanted only before piece 999,999
-  pub wanted-before : (n : ℕ) → (turnBytes p n ≡ 0 → ⊥) → n < 999999
+  pub wanted-before : (n : ℕ) → (turn_bytes p n ≡ 0 → ⊥) → n < 999999
   wanted-before n z = go (ltb n 999999) refl
     where
       go : (t : Bool) → ltb n 999999 ≡ t → n < 999999
@@ -27,28 +27,28 @@ module _ (p : Pieces) where
       go false e = absurd (z (bytes-over p n (ltb-false n 999999 e)))
 
   -- and after a turn only if it gave pieces
-  more-pieces : (n b : ℕ) → (wantedAfter p n b ≡ 0) ⊎ ((n < n + pieceCount p b) × (n + pieceCount p b < 999999))
-  more-pieces n b = go (eqb (wantedAfter p n b) 0) refl
+  more-pieces : (n b : ℕ) → (wanted_after p n b ≡ 0) ⊎ ((n < n + piece_count p b) × (n + piece_count p b < 999999))
+  more-pieces n b = go (eqb (wanted_after p n b) 0) refl
     where
-      go : (t : Bool) → eqb (wantedAfter p n b) 0 ≡ t → (wantedAfter p n b ≡ 0) ⊎ ((n < n + pieceCount p b) × (n + pieceCount p b < 999999))
-      go true e = inl (eqb-true (wantedAfter p n b) 0 e)
+      go : (t : Bool) → eqb (wanted_after p n b) 0 ≡ t → (wanted_after p n b ≡ 0) ⊎ ((n < n + piece_count p b) × (n + piece_count p b < 999999))
+      go true e = inl (eqb-true (wanted_after p n b) 0 e)
       go false e =
-          let z = eqb-false (wantedAfter p n b) 0 e in
+          let z = eqb-false (wanted_after p n b) 0 e in
           let w = wanted-some p n b z in
-          let l = wanted-before (n + pieceCount p b) (λ y. z (w.1 ∙ y)) in
+          let l = wanted-before (n + piece_count p b) (λ y. z (w.1 ∙ y)) in
           let some = bytes-some p n (omega arith) in
           inr (omega (arith, count-some p b (omega arith)), l)
 
 module _ (ed : Edition) (p : Pieces) where
   pub ahead : (n : ℕ) (s : List ℕ) (m : ℕ) → Ahead n m (turn_of ed p n s m)
   unfolding turn_of
-  ahead n s m = go (fits n (pieceCount p (length s)) m) refl
+  ahead n s m = go (fits n (piece_count p (length s)) m) refl
     where
-      go : (t : Bool) → fits n (pieceCount p (length s)) m ≡ t → Ahead n m (cond t (turnDone ed p n s) (turnRefused n))
+      go : (t : Bool) → fits n (piece_count p (length s)) m ≡ t → Ahead n m (cond t (turn_done ed p n s) (turn_refused n))
       go true e =
           record {
             within = text-within ed p n s m e;
-            size = omega (arith, wanted-most p n (length s), bytes_most p (n + pieceCount p (length s)));
+            size = omega (arith, wanted-most p n (length s), bytes_most p (n + piece_count p (length s)));
             kept = omega arith;
             more = more-pieces p n (length s);
           }

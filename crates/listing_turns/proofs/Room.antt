@@ -9,10 +9,10 @@ use lib.Dec.{eqb, ltb, leb}
 use lib.ListN.{length, length-append}
 use borrow.Author.Tests.{ltb-true, ltb-false, leb-true, leb-false, le-leb, lt-leb, lt-ltb, le-ltb, eq-eqb, ne_eqb}
 use Rattle.frame.specs.declared.Edition.{Edition}
-use Rattle.listing.specs.Lines.{pieceCount, endLine}
+use Rattle.listing.specs.Lines.{piece_count, end_line}
 use Rattle.listing.specs.declared.Pieces.{Pieces}
 use Rattle.listing.proofs.LineLengths.{length-lines, length-end}
-use Rattle.listing_turns.specs.Turns.{turnBytes, wantedAfter, linesAfter, turnText, fits}
+use Rattle.listing_turns.specs.Turns.{turn_bytes, wanted_after, lines_after, turn_text, fits}
 use Rattle.listing_turns.proofs.TurnSizes.{bytes-none}
 
 pub fits-past : (n c m : ℕ) → 999999 < n + c → false ≡ fits n c m
@@ -39,65 +39,65 @@ fits-true n c m e =
     (leb-true (n + c) 999999 t.0, leb-true (32 * (c + 1)) m t.1)
 
 -- the last line, or none
-last-short : (t : Bool) (n : ℕ) → n ≤ 999999 → length (cond t (endLine n) []) ≤ 32
+last-short : (t : Bool) (n : ℕ) → n ≤ 999999 → length (cond t (end_line n) []) ≤ 32
 last-short true n h = length-end n (omega arith)
 last-short false n h = omega arith
 
 module _ (p : Pieces) where
   -- ---- what is wanted next
 
-  pub wanted-short : (n b k : ℕ) → k ≡ turnBytes p n → b < k → 0 ≡ wantedAfter p n b
-  unfolding wantedAfter
-  wanted-short n b k e h = rw (lt-ltb b (turnBytes p n) (omega arith))
+  pub wanted-short : (n b k : ℕ) → k ≡ turn_bytes p n → b < k → 0 ≡ wanted_after p n b
+  unfolding wanted_after
+  wanted-short n b k e h = rw (lt-ltb b (turn_bytes p n) (omega arith))
 
-  pub wanted-full : (n b k a w : ℕ) → k ≡ turnBytes p n → k ≤ b → a ≡ n + pieceCount p b → w ≡ turnBytes p a → w ≡ wantedAfter p n b
-  unfolding wantedAfter
-  wanted-full n b k a w e h f q = rw (le-ltb b (turnBytes p n) (omega arith), ← f) q
+  pub wanted-full : (n b k a w : ℕ) → k ≡ turn_bytes p n → k ≤ b → a ≡ n + piece_count p b → w ≡ turn_bytes p a → w ≡ wanted_after p n b
+  unfolding wanted_after
+  wanted-full n b k a w e h f q = rw (le-ltb b (turn_bytes p n) (omega arith), ← f) q
 
-  pub wanted-none : (n b : ℕ) → wantedAfter p n b ≡ 0 → (b < turnBytes p n) ⊎ (999999 ≤ n + pieceCount p b)
-  unfolding wantedAfter
-  wanted-none n b = go (ltb b (turnBytes p n)) refl
+  pub wanted-none : (n b : ℕ) → wanted_after p n b ≡ 0 → (b < turn_bytes p n) ⊎ (999999 ≤ n + piece_count p b)
+  unfolding wanted_after
+  wanted-none n b = go (ltb b (turn_bytes p n)) refl
     where
-      go : (t : Bool) → ltb b (turnBytes p n) ≡ t → cond t 0 (turnBytes p (n + pieceCount p b)) ≡ 0
-          → (b < turnBytes p n) ⊎ (999999 ≤ n + pieceCount p b)
-      go true e z = inl (ltb-true b (turnBytes p n) e)
-      go false e z = inr (bytes-none p (n + pieceCount p b) z)
+      go : (t : Bool) → ltb b (turn_bytes p n) ≡ t → cond t 0 (turn_bytes p (n + piece_count p b)) ≡ 0
+          → (b < turn_bytes p n) ⊎ (999999 ≤ n + piece_count p b)
+      go true e z = inl (ltb-true b (turn_bytes p n) e)
+      go false e z = inr (bytes-none p (n + piece_count p b) z)
 
-  pub wanted-some : (n b : ℕ) → (wantedAfter p n b ≡ 0 → ⊥) → (turnBytes p n ≤ b) × (wantedAfter p n b ≡ turnBytes p (n + pieceCount p b))
-  unfolding wantedAfter
-  wanted-some n b = go (ltb b (turnBytes p n)) refl
+  pub wanted-some : (n b : ℕ) → (wanted_after p n b ≡ 0 → ⊥) → (turn_bytes p n ≤ b) × (wanted_after p n b ≡ turn_bytes p (n + piece_count p b))
+  unfolding wanted_after
+  wanted-some n b = go (ltb b (turn_bytes p n)) refl
     where
-      go : (t : Bool) → ltb b (turnBytes p n) ≡ t → (cond t 0 (turnBytes p (n + pieceCount p b)) ≡ 0 → ⊥)
-          → (turnBytes p n ≤ b) × (cond t 0 (turnBytes p (n + pieceCount p b)) ≡ turnBytes p (n + pieceCount p b))
+      go : (t : Bool) → ltb b (turn_bytes p n) ≡ t → (cond t 0 (turn_bytes p (n + piece_count p b)) ≡ 0 → ⊥)
+          → (turn_bytes p n ≤ b) × (cond t 0 (turn_bytes p (n + piece_count p b)) ≡ turn_bytes p (n + piece_count p b))
       go true e z = absurd (z refl)
-      go false e z = (ltb-false b (turnBytes p n) e, refl)
+      go false e z = (ltb-false b (turn_bytes p n) e, refl)
 
-  pub wanted-most : (n b : ℕ) → wantedAfter p n b ≤ turnBytes p (n + pieceCount p b)
-  unfolding wantedAfter
-  wanted-most n b = go (ltb b (turnBytes p n))
+  pub wanted-most : (n b : ℕ) → wanted_after p n b ≤ turn_bytes p (n + piece_count p b)
+  unfolding wanted_after
+  wanted-most n b = go (ltb b (turn_bytes p n))
     where
-      go : (t : Bool) → cond t 0 (turnBytes p (n + pieceCount p b)) ≤ turnBytes p (n + pieceCount p b)
+      go : (t : Bool) → cond t 0 (turn_bytes p (n + piece_count p b)) ≤ turn_bytes p (n + piece_count p b)
       go true = omega arith
       go false = omega arith
 
 module _ (ed : Edition) (p : Pieces) where
   -- ---- the text of a turn
 
-  pub text-more : (n : ℕ) (s : List ℕ) → (wantedAfter p n (length s) ≡ 0 → ⊥) → turnText ed p n s ≡ linesAfter ed p n s
-  unfolding turnText
-  text-more n s z = rw (ne_eqb (wantedAfter p n (length s)) 0 z, append-nil)
+  pub text-more : (n : ℕ) (s : List ℕ) → (wanted_after p n (length s) ≡ 0 → ⊥) → turn_text ed p n s ≡ lines_after ed p n s
+  unfolding turn_text
+  text-more n s z = rw (ne_eqb (wanted_after p n (length s)) 0 z, append-nil)
 
-  pub text-last : (n : ℕ) (s : List ℕ) → wantedAfter p n (length s) ≡ 0
-      → turnText ed p n s ≡ linesAfter ed p n s ++ endLine (n + pieceCount p (length s))
-  unfolding turnText
-  text-last n s z = rw (eq-eqb (wantedAfter p n (length s)) 0 z)
+  pub text-last : (n : ℕ) (s : List ℕ) → wanted_after p n (length s) ≡ 0
+      → turn_text ed p n s ≡ lines_after ed p n s ++ end_line (n + piece_count p (length s))
+  unfolding turn_text
+  text-last n s z = rw (eq-eqb (wanted_after p n (length s)) 0 z)
 
   -- if the turn fits, so does its text
-  pub text-within : (n : ℕ) (s : List ℕ) (m : ℕ) → fits n (pieceCount p (length s)) m ≡ true → length (turnText ed p n s) ≤ m
-  unfolding turnText
+  pub text-within : (n : ℕ) (s : List ℕ) (m : ℕ) → fits n (piece_count p (length s)) m ≡ true → length (turn_text ed p n s) ≤ m
+  unfolding turn_text
   text-within n s m e =
-      let c = pieceCount p (length s) in
+      let c = piece_count p (length s) in
       let f = fits-true n c m e in
       let l = length-lines ed p c (n + 1) s (omega arith) in
-      let k = last-short (eqb (wantedAfter p n (length s)) 0) (n + c) (omega arith) in
+      let k = last-short (eqb (wanted_after p n (length s)) 0) (n + c) (omega arith) in
       simp length-append (omega arith)

@@ -1,8 +1,8 @@
 // The listing in turns: a part of the input is read, its lines are written, and so on until nothing is left to read. The rules are in specs/; here are the
 // numbers of a turn, and `listing_pieces` lists a piece.
 ghost use Rattle.std.specs.Prelude.{◌≡◌, ◌+◌};
-ghost use Rattle.listing.specs.Lines.{pieceCount};
-ghost use Rattle.listing_turns.specs.Turns.{perTurn, turnBytes, wantedAfter, fits, start};
+ghost use Rattle.listing.specs.Lines.{piece_count};
+ghost use Rattle.listing_turns.specs.Turns.{per_turn, turn_bytes, wanted_after, fits, start};
 
 use listing::Pieces;
 
@@ -17,7 +17,7 @@ pub struct Turn {
 
 // How many pieces a turn reads at most: those of 65,520 bytes.
 fn per_turn(pieces: Pieces) -> usize
-    ensures { result ≡ perTurn pieces }
+    ensures { result ≡ per_turn pieces }
 {
     match pieces {
         Pieces::Frames => 2520,
@@ -27,7 +27,7 @@ fn per_turn(pieces: Pieces) -> usize
 
 // How many bytes are read after so many pieces: those of a whole turn, or of the pieces that are left to 999,999.
 fn turn_bytes(pieces: Pieces, listed: u32) -> usize
-    ensures { result ≡ turnBytes pieces listed }
+    ensures { result ≡ turn_bytes pieces listed }
 {
     if listed > 999999 {
         return 0;
@@ -42,8 +42,8 @@ fn turn_bytes(pieces: Pieces, listed: u32) -> usize
 // How many bytes are to be read after len bytes, with which `after` pieces are listed: none where they are fewer than were asked for, since the input has
 // ended. It requires that `after` is that number, which its caller has counted already.
 pub fn wanted_after(pieces: Pieces, listed: u32, len: usize, after: u32) -> usize
-    requires { after ≡ listed + pieceCount pieces len }
-    ensures { result ≡ wantedAfter pieces listed len }
+    requires { after ≡ listed + piece_count pieces len }
+    ensures { result ≡ wanted_after pieces listed len }
 {
     if len < turn_bytes(pieces, listed) {
         return 0;

@@ -1,13 +1,13 @@
 // The verdict of a piece of the input, by the edition named and by what the input is made of.
 ghost use Rattle.std.specs.Prelude.{◌≡◌};
-ghost use Rattle.listing.specs.Lines.{verdictOf};
+ghost use Rattle.listing.specs.Lines.{verdict_of};
 
 use frame::{Edition, Verdict};
 use listing::Pieces;
 
 // The verdict of a piece. The marks of a marked frame stand behind its 26 bytes.
 pub fn judge_piece(edition: Edition, pieces: Pieces, piece: &[u8]) -> Verdict
-    ensures { result ≡ verdictOf edition pieces piece.now }
+    ensures { result ≡ verdict_of edition pieces piece.now }
 {
     match pieces {
         Pieces::Frames => frame_reader::judge(edition, piece),

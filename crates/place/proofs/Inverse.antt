@@ -8,8 +8,8 @@ use lib.IntN.{pos}
 use lib.Ieee.{Float, nan, inf, fin, binary64, of_int, div, mul, neg, lt, to_bits, to_unsigned, fits, is_nan}
 use lib.Ieee.Fits.{of_int-fits, div-fits, mul-fits, neg-fits}
 use Rattle.bits.proofs.Computed.{and_left, and_right, below, below_at}
-use Rattle.place.specs.Degrees.{whole, tenths, degreesOf, kilometresOf}
-use Rattle.place.specs.Candidate.{truncated, tenthsNear}
+use Rattle.place.specs.Degrees.{whole, tenths, degrees_of, kilometres_of}
+use Rattle.place.specs.Candidate.{truncated, tenths_near}
 use Rattle.place.proofs.Equality.{bits-inj}
 
 -- a finite number without a minus
@@ -108,7 +108,7 @@ pub record Inverse (image : ℕ → Float) (near : Float → ℕ) (limit : ℕ) 
   pub bounded : (n : ℕ) → n ≤ limit → T (finite (image n))
   pub back : (n : ℕ) → n ≤ limit → near (image n) ≡ n
 
-pub kilometres-inverse : Inverse kilometresOf truncated 1023
+pub kilometres-inverse : Inverse kilometres_of truncated 1023
 unfolding whole
 kilometres-inverse =
     record {
@@ -122,8 +122,8 @@ unfolding tenths
 tenths-fitting n = div-fits binary64 _ _
 
 module _ (limit : ℕ) (l : limit ≤ 1800) (flag : ℕ) where
-  tenths-inverse-by : (b : Bool) → eqb flag 1 ≡ b → Inverse (degreesOf flag) (tenthsNear flag) limit
-  unfolding degreesOf tenthsNear
+  tenths-inverse-by : (b : Bool) → eqb flag 1 ≡ b → Inverse (degrees_of flag) (tenths_near flag) limit
+  unfolding degrees_of tenths_near
   tenths-inverse-by true e =
       record {
         fitting = λ n h. rw e (neg-fits binary64 (tenths n) (tenths-fitting n));
@@ -137,5 +137,5 @@ module _ (limit : ℕ) (l : limit ≤ 1800) (flag : ℕ) where
         back = λ n h. rw (e, multiplied n (omega arith)) (truncated-whole n (omega arith));
       }
 
-  pub tenths-inverse : Inverse (degreesOf flag) (tenthsNear flag) limit
+  pub tenths-inverse : Inverse (degrees_of flag) (tenths_near flag) limit
   tenths-inverse = tenths-inverse-by (eqb flag 1) refl

@@ -2,8 +2,8 @@
 use mathlib.Core.Path.{◌≡◌}
 use Prim.Native.Nat.{ℕ, ◌≤◌}
 use native.Mathlib.Omega.{arith}
-use Rattle.place.specs.Degrees.{kilometresOf, place_of}
-use Rattle.place.specs.Desk.{Allowed, SameBits, joined, conversionOf}
+use Rattle.place.specs.Degrees.{kilometres_of, place_of}
+use Rattle.place.specs.Desk.{Allowed, SameBits, joined, conversion_of}
 use Rattle.place.specs.declared.Place.{Place}
 use Rattle.place.specs.declared.Fields.{Fields}
 use Rattle.place.specs.declared.Conversion.{Conversion}
@@ -23,7 +23,7 @@ abbrev made : (south latitude west longitude depth : ℕ) → Fields
 made s n w m k = record { south = s; latitude = n; west = w; longitude = m; depth = k }
 
 module _ (p : Place) where
-  join : (a b : Signed) (d : Value) → Flagged 900 p.latitude a → Flagged 1800 p.longitude b → Sought kilometresOf 1024 p.depth d → Answered p (joined a b d)
+  join : (a b : Signed) (d : Value) → Flagged 900 p.latitude a → Flagged 1800 p.longitude b → Sought kilometres_of 1024 p.depth d → Answered p (joined a b d)
   join a b d (flagged s n s1 h t) (flagged w m w1 l u) (present k j v) =
       let depth : k ≤ 1023 = omega arith in
       placed _ (record { south = s1; latitude = h; west = w1; longitude = l; depth = depth })
@@ -33,9 +33,9 @@ module _ (p : Place) where
   join a b d (flagged s n s1 h t) (unflagged none) z = unplaced (λ f ok same. none f.west f.longitude ok.west ok.longitude same.longitude)
   join a b d (unflagged none) y z = unplaced (λ f ok same. none f.south f.latitude ok.south ok.latitude same.latitude)
 
-  pub answered : Answered p (conversionOf p)
-  unfolding conversionOf
-  answered = join _ _ _ (signed 900 p.latitude) (signed 1800 p.longitude) (sought kilometresOf p.depth 1024)
+  pub answered : Answered p (conversion_of p)
+  unfolding conversion_of
+  answered = join _ _ _ (signed 900 p.latitude) (signed 1800 p.longitude) (sought kilometres_of p.depth 1024)
 
   pub one_place : (f g : Fields) → Allowed f → Allowed g → SameBits p (place_of f) → SameBits p (place_of g) → f ≡ g
   one_place f g a b s t =

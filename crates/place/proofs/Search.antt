@@ -6,7 +6,7 @@ use native.Mathlib.Omega.{arith}
 use lib.Dec.{T, eqb}
 use lib.Ieee.{Float, binary64, fits}
 use borrow.Author.Tests.{eqb-true, eqb-false}
-use Rattle.place.specs.Desk.{sameBits, seek, value_of}
+use Rattle.place.specs.Desk.{same_bits, seek, value_of}
 use Rattle.place.specs.declared.Value.{Value}
 use Rattle.place.specs.declared.Value.TheVariants.{Of, Missing}
 use Rattle.place.proofs.Equality.{passes, fails, same-equal, same-both}
@@ -14,18 +14,18 @@ use Rattle.place.proofs.Inverse.{Inverse}
 
 -- the number below k whose image x is, or the proof that there is none
 pub data Sought (image : ℕ → Float) (k : ℕ) (x : Float) : Value → Type 0 where
-  present : (n : ℕ) → n < k → T (sameBits x (image n)) → Sought image k x (Of n)
-  absent : ((n : ℕ) → n < k → T (sameBits x (image n)) → ⊥) → Sought image k x Missing
+  present : (n : ℕ) → n < k → T (same_bits x (image n)) → Sought image k x (Of n)
+  absent : ((n : ℕ) → n < k → T (same_bits x (image n)) → ⊥) → Sought image k x Missing
 
 module _ (image : ℕ → Float) (x : Float) where
-  no_more : (k : ℕ) → (T (sameBits x (image k)) → ⊥) → ((n : ℕ) → n < k → T (sameBits x (image n)) → ⊥) → (n : ℕ) → n < suc k → T (sameBits x (image n)) → ⊥
+  no_more : (k : ℕ) → (T (same_bits x (image k)) → ⊥) → ((n : ℕ) → n < k → T (same_bits x (image n)) → ⊥) → (n : ℕ) → n < suc k → T (same_bits x (image n)) → ⊥
   no_more k last rest n h t = go (eqb n k) refl
     where
       go : (b : Bool) → eqb n k ≡ b → ⊥
-      go true e = last (subst (λ (m : ℕ). T (sameBits x (image m))) (eqb-true n k e) t)
+      go true e = last (subst (λ (m : ℕ). T (same_bits x (image m))) (eqb-true n k e) t)
       go false e = let ne = eqb-false n k e in rest n (omega arith) t
 
-  one_more : (k : ℕ) (v : Value) → Sought image k x v → (b : Bool) → sameBits x (image k) ≡ b → Sought image (suc k) x (cond b (Of k) v)
+  one_more : (k : ℕ) (v : Value) → Sought image k x v → (b : Bool) → same_bits x (image k) ≡ b → Sought image (suc k) x (cond b (Of k) v)
   one_more k v s true e = present k (omega arith) (passes e)
   one_more k v (present n h t) false e = present n (omega arith) t
   one_more k v (absent none) false e = absent (no_more k (fails e) none)
@@ -37,7 +37,7 @@ module _ (image : ℕ → Float) (x : Float) where
 
 -- there is one answer only
 module _ {image : ℕ → Float} {near : Float → ℕ} {limit : ℕ} (inverse : Inverse image near limit) (x : Float) where
-  pub unique : (n m : ℕ) → n ≤ limit → m ≤ limit → T (sameBits x (image n)) → T (sameBits x (image m)) → n ≡ m
+  pub unique : (n m : ℕ) → n ≤ limit → m ≤ limit → T (same_bits x (image n)) → T (same_bits x (image m)) → n ≡ m
   unique n m h l s t =
       sym (inverse.back n h) ∙ ap near (same-both x (image n) (image m) (inverse.fitting n h) (inverse.fitting m l) s t) ∙ inverse.back m l
 
@@ -52,17 +52,17 @@ module _ {image : ℕ → Float} {near : Float → ℕ} {limit : ℕ} (inverse :
 
 -- ---- the number near x is the only one to be compared
 module _ {image : ℕ → Float} {near : Float → ℕ} {limit : ℕ} (inverse : Inverse image near limit) (x : Float) (f : T (fits binary64 x)) (k : ℕ) (e : k ≡ near x) where
-  nearest : (n : ℕ) → n ≤ limit → T (sameBits x (image n)) → n ≡ k
+  nearest : (n : ℕ) → n ≤ limit → T (same_bits x (image n)) → n ≡ k
   nearest n h t = sym (inverse.back n h) ∙ sym (ap near (same-equal x (image n) f (inverse.fitting n h) t)) ∙ sym e
 
   pub beyond : limit < k → Missing ≡ value_of image limit x
   beyond l = value inverse x (absent (λ n h t. omega (arith, nearest n (omega arith) t)))
 
-  module _ {y : Float} {b : Bool} (p : y ≡ image k) (q : b ≡ sameBits x y) where
+  module _ {y : Float} {b : Bool} (p : y ≡ image k) (q : b ≡ same_bits x y) where
     pub alike : b ≡ true → k ≤ limit → Of k ≡ value_of image limit x
-    alike r h = value inverse x (present k (omega arith) (passes (sym (q ∙ ap (sameBits x) p) ∙ r)))
+    alike r h = value inverse x (present k (omega arith) (passes (sym (q ∙ ap (same_bits x) p) ∙ r)))
 
     pub unlike : b ≡ false → Missing ≡ value_of image limit x
     unlike r =
-        let differ = sym (q ∙ ap (sameBits x) p) ∙ r in
-        value inverse x (absent (λ n h t. fails differ (subst (λ (m : ℕ). T (sameBits x (image m))) (nearest n (omega arith) t) t)))
+        let differ = sym (q ∙ ap (same_bits x) p) ∙ r in
+        value inverse x (absent (λ n h t. fails differ (subst (λ (m : ℕ). T (same_bits x (image m))) (nearest n (omega arith) t) t)))

@@ -9,5 +9,5 @@ unfoldable pub truncated : Float → ℕ
 truncated x = cond (lt (fin true 1 (pos 0)) x) (cond (lt x (fin false 1 (pos 64))) (to_unsigned 64 x) 65535) 65535
 
 -- the tenths of a degree, when the flag 1 has negated them
-unfoldable pub tenthsNear : (flag : ℕ) → Float → ℕ
-tenthsNear flag x = truncated (mul binary64 (cond (eqb flag 1) (neg x) x) (whole 10))
+unfoldable pub tenths_near : (flag : ℕ) → Float → ℕ
+tenths_near flag x = truncated (mul binary64 (cond (eqb flag 1) (neg x) x) (whole 10))

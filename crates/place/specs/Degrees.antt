@@ -14,18 +14,18 @@ unfoldable pub tenths : ℕ → Float
 tenths n = div binary64 (whole n) (whole 10)
 
 -- the image of a latitude or longitude in tenths: the flag 1, south or west, negates the quotient, so that a southern 0 is minus zero
-unfoldable pub degreesOf : (flag n : ℕ) → Float
-degreesOf flag n = cond (eqb flag 1) (neg (tenths n)) (tenths n)
+unfoldable pub degrees_of : (flag n : ℕ) → Float
+degrees_of flag n = cond (eqb flag 1) (neg (tenths n)) (tenths n)
 
 -- the image of a depth: the kilometres as a double
-abbrev pub kilometresOf : ℕ → Float
-kilometresOf n = whole n
+abbrev pub kilometres_of : ℕ → Float
+kilometres_of n = whole n
 
 -- the image of field values
 abbrev pub place_of : Fields → Place
 place_of f =
     record {
-      latitude = degreesOf f.south f.latitude;
-      longitude = degreesOf f.west f.longitude;
-      depth = kilometresOf f.depth;
+      latitude = degrees_of f.south f.latitude;
+      longitude = degrees_of f.west f.longitude;
+      depth = kilometres_of f.depth;
     }

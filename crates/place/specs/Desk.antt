@@ -2,7 +2,7 @@
 use Rattle.std.specs.Prelude.{Bool, cond, not, ◌&&◌, List, [], ◌∷◌, ℕ, zero, suc, ◌≤◌, T, eqb, Float}
 use Rattle.std.specs.Float.{binary64}
 use Rattle.std.specs.Float.Ieee.{to_bits, is_nan}
-use Rattle.place.specs.Degrees.{degreesOf, kilometresOf}
+use Rattle.place.specs.Degrees.{degrees_of, kilometres_of}
 use Rattle.place.specs.declared.Place.{Place}
 use Rattle.place.specs.declared.Fields.{Fields}
 use Rattle.place.specs.declared.Conversion.{Conversion}
@@ -21,32 +21,32 @@ pub record Allowed (f : Fields) : Type 0 where
   pub depth : f.depth ≤ 1023
 
 -- two doubles have the very same bits. A NaN has many bit patterns, none of which is a field value's image, so it has nobody's bits.
-unfoldable pub sameBits : Float → Float → Bool
-sameBits x y = not (is_nan x) && (not (is_nan y) && eqb (to_bits binary64 x) (to_bits binary64 y))
+unfoldable pub same_bits : Float → Float → Bool
+same_bits x y = not (is_nan x) && (not (is_nan y) && eqb (to_bits binary64 x) (to_bits binary64 y))
 
 -- so have the three doubles of two places
 pub record SameBits (p q : Place) : Type 0 where
-  pub latitude : T (sameBits p.latitude q.latitude)
-  pub longitude : T (sameBits p.longitude q.longitude)
-  pub depth : T (sameBits p.depth q.depth)
+  pub latitude : T (same_bits p.latitude q.latitude)
+  pub longitude : T (same_bits p.longitude q.longitude)
+  pub depth : T (same_bits p.depth q.depth)
 
 -- the number below n whose image has the very bits of x
 unfoldable pub seek : (image : ℕ → Float) (n : ℕ) → Float → Value
 seek image zero x = Missing
-seek image (suc k) x = cond (sameBits x (image k)) (Of k) (seek image k x)
+seek image (suc k) x = cond (same_bits x (image k)) (Of k) (seek image k x)
 
 -- the value of no more than the limit
 abbrev pub value_of : (image : ℕ → Float) (limit : ℕ) → Float → Value
 value_of image limit x = seek image (suc limit) x
 
 -- a value with its flag: without it, or else with it
-abbrev pub eitherSign : Value → Value → Signed
-eitherSign (Of n) v = At 0 n
-eitherSign Missing (Of n) = At 1 n
-eitherSign Missing Missing = Nowhere
+abbrev pub either_sign : Value → Value → Signed
+either_sign (Of n) v = At 0 n
+either_sign Missing (Of n) = At 1 n
+either_sign Missing Missing = Nowhere
 
 unfoldable pub signed_of : (limit : ℕ) → Float → Signed
-signed_of limit x = eitherSign (value_of (degreesOf 0) limit x) (value_of (degreesOf 1) limit x)
+signed_of limit x = either_sign (value_of (degrees_of 0) limit x) (value_of (degrees_of 1) limit x)
 
 -- all three, or refusal 11
 abbrev pub joined : (latitude longitude : Signed) (depth : Value) → Conversion
@@ -56,17 +56,17 @@ joined (At s n) Nowhere d = Refused 11
 joined Nowhere l d = Refused 11
 
 -- what `fields_of` answers
-unfoldable pub conversionOf : Place → Conversion
-conversionOf p = joined (signed_of 900 p.latitude) (signed_of 1800 p.longitude) (value_of kilometresOf 1023 p.depth)
+unfoldable pub conversion_of : Place → Conversion
+conversion_of p = joined (signed_of 900 p.latitude) (signed_of 1800 p.longitude) (value_of kilometres_of 1023 p.depth)
 
 -- document 01's number and values of an answer: 0 with south, latitude, west, longitude and depth, or the refusal's number and nothing else
-abbrev pub conversionNumber : Conversion → ℕ
-conversionNumber (Converted f) = 0
-conversionNumber (Refused n) = n
+abbrev pub conversion_number : Conversion → ℕ
+conversion_number (Converted f) = 0
+conversion_number (Refused n) = n
 
-abbrev pub fieldList : Fields → List ℕ
-fieldList f = f.south ∷ f.latitude ∷ f.west ∷ f.longitude ∷ f.depth ∷ []
+abbrev pub field_list : Fields → List ℕ
+field_list f = f.south ∷ f.latitude ∷ f.west ∷ f.longitude ∷ f.depth ∷ []
 
-abbrev pub conversionFields : Conversion → List ℕ
-conversionFields (Converted f) = fieldList f
-conversionFields (Refused n) = []
+abbrev pub conversion_fields : Conversion → List ℕ
+conversion_fields (Converted f) = field_list f
+conversion_fields (Refused n) = []

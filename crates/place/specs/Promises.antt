@@ -2,8 +2,8 @@
 use Rattle.std.specs.Prelude.{◌≡◌, Bool, true, false, ◌⊎◌, ℕ, ◌≤◌, pos, Float}
 use Rattle.std.specs.Float.{nan, inf, fin, binary64}
 use Rattle.std.specs.Float.Ieee.{mul, to_bits}
-use Rattle.place.specs.Degrees.{whole, tenths, degreesOf, place_of}
-use Rattle.place.specs.Desk.{Allowed, SameBits, conversionOf, conversionNumber, fieldList, conversionFields}
+use Rattle.place.specs.Degrees.{whole, tenths, degrees_of, place_of}
+use Rattle.place.specs.Desk.{Allowed, SameBits, conversion_of, conversion_number, field_list, conversion_fields}
 use Rattle.place.specs.declared.Place.{Place}
 use Rattle.place.specs.declared.Fields.{Fields}
 use Rattle.place.specs.declared.Conversion.TheVariants.{Converted, Refused}
@@ -24,25 +24,25 @@ pub record Degrees : Type 0 where
   -- three tenths are 0x3fd3333333333333; three times the double 0.1 would be the next double
   pub three-tenths : to_bits binary64 (tenths 3) ≡ 4599075939470750515
   -- a southern 0 is minus zero
-  pub southern-zero : degreesOf 1 0 ≡ fin true 0 (pos 0)
-  pub northern-zero : degreesOf 0 0 ≡ fin false 0 (pos 0)
+  pub southern-zero : degrees_of 1 0 ≡ fin true 0 (pos 0)
+  pub northern-zero : degrees_of 0 0 ≡ fin false 0 (pos 0)
   -- field values, as doubles and back, are the same, with their flags
-  pub back-again : (f : Fields) → Allowed f → conversionOf (place_of f) ≡ Converted f
+  pub back-again : (f : Fields) → Allowed f → conversion_of (place_of f) ≡ Converted f
   -- a place becomes field values only where each double has the very bits of an allowed field value's image
-  pub placed-only : (p : Place) (f : Fields) → conversionOf p ≡ Converted f → Allowed f × SameBits p (place_of f)
+  pub placed-only : (p : Place) (f : Fields) → conversion_of p ≡ Converted f → Allowed f × SameBits p (place_of f)
   -- and becomes them wherever each has
-  pub placed : (p : Place) (f : Fields) → Allowed f → SameBits p (place_of f) → conversionOf p ≡ Converted f
+  pub placed : (p : Place) (f : Fields) → Allowed f → SameBits p (place_of f) → conversion_of p ≡ Converted f
   -- the fields that are told are then these
-  pub fields_told : (p : Place) (f : Fields) → Allowed f → SameBits p (place_of f) → conversionFields (conversionOf p) ≡ fieldList f
+  pub fields_told : (p : Place) (f : Fields) → Allowed f → SameBits p (place_of f) → conversion_fields (conversion_of p) ≡ field_list f
   -- the number is 0 exactly where there are such field values, otherwise 11, and no other
-  pub zero-there : (p : Place) → Imaged p → conversionNumber (conversionOf p) ≡ 0
-  pub zero-only-there : (p : Place) → conversionNumber (conversionOf p) ≡ 0 → Imaged p
-  pub eleven-elsewhere : (p : Place) → (Imaged p → ⊥) → conversionNumber (conversionOf p) ≡ 11
-  pub eleven-only-elsewhere : (p : Place) → conversionNumber (conversionOf p) ≡ 11 → Imaged p → ⊥
-  pub zero-or-eleven : (p : Place) → (conversionNumber (conversionOf p) ≡ 0) ⊎ (conversionNumber (conversionOf p) ≡ 11)
+  pub zero-there : (p : Place) → Imaged p → conversion_number (conversion_of p) ≡ 0
+  pub zero-only-there : (p : Place) → conversion_number (conversion_of p) ≡ 0 → Imaged p
+  pub eleven-elsewhere : (p : Place) → (Imaged p → ⊥) → conversion_number (conversion_of p) ≡ 11
+  pub eleven-only-elsewhere : (p : Place) → conversion_number (conversion_of p) ≡ 11 → Imaged p → ⊥
+  pub zero-or-eleven : (p : Place) → (conversion_number (conversion_of p) ≡ 0) ⊎ (conversion_number (conversion_of p) ≡ 11)
   -- 11 is told of the refusal alone
-  pub refused : (p : Place) → conversionNumber (conversionOf p) ≡ 11 → conversionOf p ≡ Refused 11
+  pub refused : (p : Place) → conversion_number (conversion_of p) ≡ 11 → conversion_of p ≡ Refused 11
   -- NaN and infinities are 11 too, and the depth minus zero
-  pub nan-refused : (p : Place) → HasDouble nan p → conversionNumber (conversionOf p) ≡ 11
-  pub infinite-refused : (p : Place) (s : Bool) → HasDouble (inf s) p → conversionNumber (conversionOf p) ≡ 11
-  pub depth-minus-zero-refused : (p : Place) → p.depth ≡ fin true 0 (pos 0) → conversionNumber (conversionOf p) ≡ 11
+  pub nan-refused : (p : Place) → HasDouble nan p → conversion_number (conversion_of p) ≡ 11
+  pub infinite-refused : (p : Place) (s : Bool) → HasDouble (inf s) p → conversion_number (conversion_of p) ≡ 11
+  pub depth-minus-zero-refused : (p : Place) → p.depth ≡ fin true 0 (pos 0) → conversion_number (conversion_of p) ≡ 11

@@ -1,9 +1,9 @@
 -- The cases of the definitions, as the functions come to them. Assumes nothing.
 use Rattle.std.proofs.Common.{◌≡◌, ℕ, true, false, pos, eq-eqb, ne_eqb}
 use lib.Ieee.{Float, fin, binary64, mul, neg, lt, to_unsigned}
-use Rattle.place.specs.Degrees.{whole, degreesOf, kilometresOf}
-use Rattle.place.specs.Desk.{value_of, eitherSign, signed_of, joined, conversionOf}
-use Rattle.place.specs.Candidate.{truncated, tenthsNear}
+use Rattle.place.specs.Degrees.{whole, degrees_of, kilometres_of}
+use Rattle.place.specs.Desk.{value_of, either_sign, signed_of, joined, conversion_of}
+use Rattle.place.specs.Candidate.{truncated, tenths_near}
 use Rattle.place.specs.declared.Place.{Place}
 use Rattle.place.specs.declared.Value.{Value}
 use Rattle.place.specs.declared.Signed.{Signed}
@@ -11,12 +11,12 @@ use Rattle.place.specs.declared.Signed.{Signed}
 -- ---- the number near x
 
 module _ (flag k : ℕ) (x : Float) where
-  pub near-negated : flag ≡ 1 → k ≡ truncated (mul binary64 (neg x) (whole 10)) → k ≡ tenthsNear flag x
-  unfolding tenthsNear
+  pub near-negated : flag ≡ 1 → k ≡ truncated (mul binary64 (neg x) (whole 10)) → k ≡ tenths_near flag x
+  unfolding tenths_near
   near-negated h e = rw (eq-eqb flag 1 h) e
 
-  pub near-plain : (flag ≡ 1 → ⊥) → k ≡ truncated (mul binary64 x (whole 10)) → k ≡ tenthsNear flag x
-  unfolding tenthsNear
+  pub near-plain : (flag ≡ 1 → ⊥) → k ≡ truncated (mul binary64 x (whole 10)) → k ≡ tenths_near flag x
+  unfolding tenths_near
   near-plain h e = rw (ne_eqb flag 1 h) e
 
 -- ---- the whole part
@@ -36,12 +36,12 @@ module _ (x : Float) where
 
 -- ---- a value with its flag, and all three
 
-pub either : (limit : ℕ) (x : Float) (v w : Value) → v ≡ value_of (degreesOf 0) limit x → w ≡ value_of (degreesOf 1) limit x
-    → eitherSign v w ≡ signed_of limit x
+pub either : (limit : ℕ) (x : Float) (v w : Value) → v ≡ value_of (degrees_of 0) limit x → w ≡ value_of (degrees_of 1) limit x
+    → either_sign v w ≡ signed_of limit x
 unfolding signed_of
 either limit x v w e f = rw (e, f)
 
 pub conversion : (p : Place) (a b : Signed) (d : Value) → a ≡ signed_of 900 p.latitude → b ≡ signed_of 1800 p.longitude
-    → d ≡ value_of kilometresOf 1023 p.depth → joined a b d ≡ conversionOf p
-unfolding conversionOf
+    → d ≡ value_of kilometres_of 1023 p.depth → joined a b d ≡ conversion_of p
+unfolding conversion_of
 conversion p a b d e f g = rw (e, f, g)

@@ -1,14 +1,14 @@
 // The desk's place: three doubles become field values exactly when each has the very bits of an allowed field value's image.
 ghost use Rattle.std.specs.Prelude.{◌≡◌, ◌≤◌};
-ghost use Rattle.place.specs.Degrees.{degreesOf, kilometresOf};
-ghost use Rattle.place.specs.Desk.{sameBits, value_of, signed_of, conversionOf};
-ghost use Rattle.place.specs.Candidate.{truncated, tenthsNear};
+ghost use Rattle.place.specs.Degrees.{degrees_of, kilometres_of};
+ghost use Rattle.place.specs.Desk.{same_bits, value_of, signed_of, conversion_of};
+ghost use Rattle.place.specs.Candidate.{truncated, tenths_near};
 
 use place::{Conversion, Fields, Place, Signed, Value};
 
 // The bits of a NaN are nobody's.
 fn same_bits(x: f64, y: f64) -> bool
-    ensures { result ≡ sameBits x y }
+    ensures { result ≡ same_bits x y }
 {
     if x == x {
         if y == y {
@@ -32,7 +32,7 @@ fn whole_part(x: f64) -> u64
 
 // The one number of tenths whose image x can be.
 fn tenths_near(flag: u64, x: f64) -> u64
-    ensures { result ≡ tenthsNear flag x }
+    ensures { result ≡ tenths_near flag x }
 {
     if flag == 1 {
         return whole_part(-x * 10.0);
@@ -43,7 +43,7 @@ fn tenths_near(flag: u64, x: f64) -> u64
 // The tenths of a degree, at most the limit, whose image with this flag x is.
 fn tenths_of(flag: u64, limit: u64, x: f64) -> Value
     requires { limit ≤ 1800 }
-    ensures { result ≡ value_of (degreesOf flag) limit x }
+    ensures { result ≡ value_of (degrees_of flag) limit x }
 {
     let n = tenths_near(flag, x);
     if limit < n {
@@ -71,7 +71,7 @@ fn signed_of(limit: u64, x: f64) -> Signed
 
 // The kilometres whose image x is.
 fn depth_of(x: f64) -> Value
-    ensures { result ≡ value_of kilometresOf 1023 x }
+    ensures { result ≡ value_of kilometres_of 1023 x }
 {
     let n = whole_part(x);
     if 1023 < n {
@@ -85,7 +85,7 @@ fn depth_of(x: f64) -> Value
 
 // The field values of the desk's place, or refusal 11.
 pub fn fields_of(place: Place) -> Conversion
-    ensures { result ≡ conversionOf place }
+    ensures { result ≡ conversion_of place }
 {
     let Signed::At {
         flag: south,

@@ -1,6 +1,6 @@
 // What a record reports, by the edition named.
 ghost use Rattle.std.specs.Prelude.{◌≡◌};
-ghost use Rattle.report.specs.Report.{reportedBy, reportOf};
+ghost use Rattle.report.specs.Report.{reported_by, report_of};
 
 use frame::{Body, Edition, Record};
 
@@ -21,7 +21,7 @@ pub enum Reported {
 
 // What a legal record reports, by its body.
 fn report_by(body: Body, message: Record) -> Reported
-    ensures { result ≡ reportedBy body message }
+    ensures { result ≡ reported_by body message }
 {
     match body {
         Body::AreaPage => Reported::AreasOnly,
@@ -38,7 +38,7 @@ fn report_by(body: Body, message: Record) -> Reported
 
 // What any record reports.
 pub fn report(edition: Edition, message: Record) -> Reported
-    ensures { result ≡ reportOf edition message }
+    ensures { result ≡ report_of edition message }
 {
     let refusal = frame_legality::record_refusal(edition, message);
     if refusal != 0 {

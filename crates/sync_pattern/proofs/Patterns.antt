@@ -12,13 +12,13 @@ use lib.Dec.{leb}
 use lib.ListN.{length}
 use borrow.Author.Tests.{le-leb, lt-leb, leb-true, leb-false}
 use Rattle.bits.specs.Bits.{digit, odd, bits_of}
-use Rattle.bits.proofs.Bits.{length-bitsOf}
+use Rattle.bits.proofs.Bits.{length-bits_of}
 use Rattle.gf2.specs.Polynomial.{◌⊕◌, add}
-use Rattle.lanes.proofs.Number.{add-bitsOf}
+use Rattle.lanes.proofs.Number.{add-bits_of}
 use Rattle.dsc.specs.Code.{weight, dist}
-use Rattle.dsc.proofs.Weight.{weight-bitsOf}
+use Rattle.dsc.proofs.Weight.{weight-bits_of}
 use Rattle.dsc.proofs.Distance.{dist-hit}
-use Rattle.sync_pattern.specs.Pattern.{patternWord, patternBits, differingFrom, syncLimit, syncOf, syncNumber, fittingPattern, fittingDiffering}
+use Rattle.sync_pattern.specs.Pattern.{pattern_word, pattern_bits, differing_from, sync_limit, sync_of, sync_number, fitting_pattern, fitting_differing}
 use Rattle.sync_pattern.specs.declared.Sync.{Sync}
 use Rattle.sync_pattern.specs.declared.Sync.TheVariants.{Fits, Neither}
 
@@ -37,78 +37,78 @@ dist-complement (a ∷ s) (b ∷ w) h = omega (arith, first a b, dist-complement
     first false true = refl
     first false false = refl
 
-pub length-pattern : (p : ℕ) → length (patternBits p) ≡ 16
-length-pattern p = length-bitsOf 16 (patternWord p)
+pub length-pattern : (p : ℕ) → length (pattern_bits p) ≡ 16
+length-pattern p = length-bits_of 16 (pattern_word p)
 
-pub complement : patternBits 1 ≡ map not (patternBits 0)
+pub complement : pattern_bits 1 ≡ map not (pattern_bits 0)
 unfolding bits_of odd
 complement = refl
 
-pub sixteen : (s : List Bool) → length s ≡ 16 → differingFrom 0 s + differingFrom 1 s ≡ 16
-unfolding differingFrom
+pub sixteen : (s : List Bool) → length s ≡ 16 → differing_from 0 s + differing_from 1 s ≡ 16
+unfolding differing_from
 sixteen s h =
-    ap (λ (w : List Bool). dist s (patternBits 0) + dist s w) complement
-    ∙ dist-complement s (patternBits 0) (h ∙ sym (length-pattern 0))
+    ap (λ (w : List Bool). dist s (pattern_bits 0) + dist s w) complement
+    ∙ dist-complement s (pattern_bits 0) (h ∙ sym (length-pattern 0))
     ∙ h
 
-pub differing-dist : (p : ℕ) (s : List Bool) → differingFrom p s ≡ dist s (patternBits p)
-unfolding differingFrom
+pub differing-dist : (p : ℕ) (s : List Bool) → differing_from p s ≡ dist s (pattern_bits p)
+unfolding differing_from
 differing-dist p s = refl
 
 -- a pattern that was hit differs from itself in as many bits
-pub differing-hit : (p : ℕ) (e : List Bool) → length e ≡ 16 → differingFrom p (add e (patternBits p)) ≡ weight e
-unfolding differingFrom
-differing-hit p e h = dist-hit e (patternBits p) (h ∙ sym (length-pattern p))
+pub differing-hit : (p : ℕ) (e : List Bool) → length e ≡ 16 → differing_from p (add e (pattern_bits p)) ≡ weight e
+unfolding differing_from
+differing-hit p e h = dist-hit e (pattern_bits p) (h ∙ sym (length-pattern p))
 
 -- by the numbers that hold the bits
-pub differing-ones : (p n : ℕ) → differingFrom p (bits_of 16 n) ≡ ones (bit_xor n (patternWord p) % 65536)
-unfolding differingFrom
-differing-ones p n = ap weight (add-bitsOf 16 n (patternWord p)) ∙ weight-bitsOf 16 (bit_xor n (patternWord p))
+pub differing-ones : (p n : ℕ) → differing_from p (bits_of 16 n) ≡ ones (bit_xor n (pattern_word p) % 65536)
+unfolding differing_from
+differing-ones p n = ap weight (add-bits_of 16 n (pattern_word p)) ∙ weight-bits_of 16 (bit_xor n (pattern_word p))
 
 -- ---- the answer, by what the tests say
 
 module _ (s : List Bool) where
   -- whether 0 fits, and whether 1 does
   chosen : (a b : Bool) → Sync
-  chosen a b = cond a (Fits 0 (differingFrom 0 s)) (cond b (Fits 1 (differingFrom 1 s)) Neither)
+  chosen a b = cond a (Fits 0 (differing_from 0 s)) (cond b (Fits 1 (differing_from 1 s)) Neither)
 
-  by_tests : (a b : Bool) → leb (differingFrom 0 s) syncLimit ≡ a → leb (differingFrom 1 s) syncLimit ≡ b → chosen a b ≡ syncOf s
-  unfolding chosen syncOf
+  by_tests : (a b : Bool) → leb (differing_from 0 s) sync_limit ≡ a → leb (differing_from 1 s) sync_limit ≡ b → chosen a b ≡ sync_of s
+  unfolding chosen sync_of
   by_tests a b ea eb = sym (ap₂ chosen ea eb)
 
-  pub fits-0 : differingFrom 0 s ≤ syncLimit → Fits 0 (differingFrom 0 s) ≡ syncOf s
+  pub fits-0 : differing_from 0 s ≤ sync_limit → Fits 0 (differing_from 0 s) ≡ sync_of s
   unfolding chosen
-  fits-0 h = by_tests true (leb (differingFrom 1 s) syncLimit) (le-leb (differingFrom 0 s) syncLimit h) refl
+  fits-0 h = by_tests true (leb (differing_from 1 s) sync_limit) (le-leb (differing_from 0 s) sync_limit h) refl
 
-  pub fits-1 : syncLimit < differingFrom 0 s → differingFrom 1 s ≤ syncLimit → Fits 1 (differingFrom 1 s) ≡ syncOf s
+  pub fits-1 : sync_limit < differing_from 0 s → differing_from 1 s ≤ sync_limit → Fits 1 (differing_from 1 s) ≡ sync_of s
   unfolding chosen
-  fits-1 g h = by_tests false true (lt-leb (differingFrom 0 s) syncLimit g) (le-leb (differingFrom 1 s) syncLimit h)
+  fits-1 g h = by_tests false true (lt-leb (differing_from 0 s) sync_limit g) (le-leb (differing_from 1 s) sync_limit h)
 
-  pub fits-neither : syncLimit < differingFrom 0 s → syncLimit < differingFrom 1 s → Neither ≡ syncOf s
+  pub fits-neither : sync_limit < differing_from 0 s → sync_limit < differing_from 1 s → Neither ≡ sync_of s
   unfolding chosen
-  fits-neither g h = by_tests false false (lt-leb (differingFrom 0 s) syncLimit g) (lt-leb (differingFrom 1 s) syncLimit h)
+  fits-neither g h = by_tests false false (lt-leb (differing_from 0 s) sync_limit g) (lt-leb (differing_from 1 s) sync_limit h)
 
   -- the three cases, and that there is no other
   pub data Answered : Sync → Type 0 where
-    is-0 : differingFrom 0 s ≤ syncLimit → Answered (Fits 0 (differingFrom 0 s))
-    is-1 : differingFrom 1 s ≤ syncLimit → Answered (Fits 1 (differingFrom 1 s))
-    is-neither : syncLimit < differingFrom 0 s → syncLimit < differingFrom 1 s → Answered Neither
+    is-0 : differing_from 0 s ≤ sync_limit → Answered (Fits 0 (differing_from 0 s))
+    is-1 : differing_from 1 s ≤ sync_limit → Answered (Fits 1 (differing_from 1 s))
+    is-neither : sync_limit < differing_from 0 s → sync_limit < differing_from 1 s → Answered Neither
 
-  pub answered : Answered (syncOf s)
+  pub answered : Answered (sync_of s)
   unfolding chosen
-  answered = go (leb (differingFrom 0 s) syncLimit) (leb (differingFrom 1 s) syncLimit) refl refl
+  answered = go (leb (differing_from 0 s) sync_limit) (leb (differing_from 1 s) sync_limit) refl refl
     where
-      go : (a b : Bool) → leb (differingFrom 0 s) syncLimit ≡ a → leb (differingFrom 1 s) syncLimit ≡ b → Answered (syncOf s)
-      go true b ea eb = subst Answered (by_tests true b ea eb) (is-0 (leb-true (differingFrom 0 s) syncLimit ea))
-      go false true ea eb = subst Answered (by_tests false true ea eb) (is-1 (leb-true (differingFrom 1 s) syncLimit eb))
+      go : (a b : Bool) → leb (differing_from 0 s) sync_limit ≡ a → leb (differing_from 1 s) sync_limit ≡ b → Answered (sync_of s)
+      go true b ea eb = subst Answered (by_tests true b ea eb) (is-0 (leb-true (differing_from 0 s) sync_limit ea))
+      go false true ea eb = subst Answered (by_tests false true ea eb) (is-1 (leb-true (differing_from 1 s) sync_limit eb))
       go false false ea eb =
-          subst Answered (by_tests false false ea eb) (is-neither (leb-false (differingFrom 0 s) syncLimit ea) (leb-false (differingFrom 1 s) syncLimit eb))
+          subst Answered (by_tests false false ea eb) (is-neither (leb-false (differing_from 0 s) sync_limit ea) (leb-false (differing_from 1 s) sync_limit eb))
 
 -- an answer by its number
-pub fitting : (y : Sync) → syncNumber y ≡ 0 → y ≡ Fits (fittingPattern y) (fittingDiffering y)
+pub fitting : (y : Sync) → sync_number y ≡ 0 → y ≡ Fits (fitting_pattern y) (fitting_differing y)
 fitting (Fits p d) e = refl
 fitting Neither e = absurd (omega arith)
 
-pub fitting-none : (y : Sync) → syncNumber y ≢ 0 → y ≡ Neither
+pub fitting-none : (y : Sync) → sync_number y ≢ 0 → y ≡ Neither
 fitting-none (Fits p d) n = absurd (n refl)
 fitting-none Neither n = refl

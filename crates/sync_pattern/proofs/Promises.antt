@@ -8,7 +8,7 @@ use lib.ListN.{length}
 use Rattle.gf2.specs.Polynomial.{add}
 use Rattle.gf2.proofs.Sum.{length-add}
 use Rattle.dsc.specs.Code.{weight}
-use Rattle.sync_pattern.specs.Pattern.{patternBits, differingFrom, syncOf}
+use Rattle.sync_pattern.specs.Pattern.{pattern_bits, differing_from, sync_of}
 use Rattle.sync_pattern.specs.Promises.{FarFromBoth, Fitting, PatternTest}
 use Rattle.sync_pattern.specs.declared.Sync.{Sync}
 use Rattle.sync_pattern.specs.declared.Sync.TheVariants.{Fits, Neither}
@@ -21,12 +21,12 @@ two zero P h a b = a
 two (suc zero) P h a b = b
 two (suc (suc p)) P h a b = absurd (omega arith)
 
-fits-near : (s : List Bool) (p : ℕ) → length s ≡ 16 → p < 2 → differingFrom p s ≤ 3 → syncOf s ≡ Fits p (differingFrom p s)
+fits-near : (s : List Bool) (p : ℕ) → length s ≡ 16 → p < 2 → differing_from p s ≤ 3 → sync_of s ≡ Fits p (differing_from p s)
 fits-near s p l h =
-    two p (λ (q : ℕ). differingFrom q s ≤ 3 → syncOf s ≡ Fits q (differingFrom q s)) h (λ k. sym (fits-0 s k))
+    two p (λ (q : ℕ). differing_from q s ≤ 3 → sync_of s ≡ Fits q (differing_from q s)) h (λ k. sym (fits-0 s k))
     (λ k. sym (fits-1 s (omega (arith, sixteen s l)) k))
 
-fits : (s : List Bool) (p d : ℕ) → length s ≡ 16 → Fitting s p d → syncOf s ≡ Fits p d
+fits : (s : List Bool) (p d : ℕ) → length s ≡ 16 → Fitting s p d → sync_of s ≡ Fits p d
 fits s p d l f = fits-near s p l f.pattern (omega (arith, f.differing, f.few)) ∙ ap (Fits p) (sym f.differing)
 
 only_one : (s : List Bool) (p q d e : ℕ) → length s ≡ 16 → Fitting s p d → Fitting s q e → p ≡ q
@@ -34,25 +34,25 @@ only_one s p q d e l f g = let same = sym (fits s p d l f) ∙ fits s q e l g in
 
 -- ---- by the answer
 
-fits-only : (s : List Bool) (p d : ℕ) → syncOf s ≡ Fits p d → Fitting s p d
-fits-only s p d e = go (syncOf s) (answered s) e
+fits-only : (s : List Bool) (p d : ℕ) → sync_of s ≡ Fits p d → Fitting s p d
+fits-only s p d e = go (sync_of s) (answered s) e
   where
     go : (a : Sync) → Answered s a → a ≡ Fits p d → Fitting s p d
     go _ (is-0 h) q =
         let ep : 0 ≡ p = cc in
-        let ed : differingFrom 0 s ≡ d = cc in
-        record { pattern = omega arith; differing = sym ed ∙ ap (λ (k : ℕ). differingFrom k s) ep; few = omega arith }
+        let ed : differing_from 0 s ≡ d = cc in
+        record { pattern = omega arith; differing = sym ed ∙ ap (λ (k : ℕ). differing_from k s) ep; few = omega arith }
     go _ (is-1 h) q =
         let ep : 1 ≡ p = cc in
-        let ed : differingFrom 1 s ≡ d = cc in
-        record { pattern = omega arith; differing = sym ed ∙ ap (λ (k : ℕ). differingFrom k s) ep; few = omega arith }
+        let ed : differing_from 1 s ≡ d = cc in
+        record { pattern = omega arith; differing = sym ed ∙ ap (λ (k : ℕ). differing_from k s) ep; few = omega arith }
     go _ (is-neither g h) q = let z : ◌≡◌ {A = ℕ} 0 1 = cc in absurd (omega arith)
 
-neither : (s : List Bool) → FarFromBoth s → syncOf s ≡ Neither
+neither : (s : List Bool) → FarFromBoth s → sync_of s ≡ Neither
 neither s f = sym (fits-neither s f.from-0 f.from-1)
 
-neither-only : (s : List Bool) → syncOf s ≡ Neither → FarFromBoth s
-neither-only s e = go (syncOf s) (answered s) e
+neither-only : (s : List Bool) → sync_of s ≡ Neither → FarFromBoth s
+neither-only s e = go (sync_of s) (answered s) e
   where
     go : (a : Sync) → Answered s a → a ≡ Neither → FarFromBoth s
     go _ (is-0 h) q = let z : ◌≡◌ {A = ℕ} 0 1 = cc in absurd (omega arith)
@@ -63,30 +63,30 @@ neither-only s e = go (syncOf s) (answered s) e
 
 module _ (p : ℕ) (e : List Bool) (h : p < 2) (l : length e ≡ 16) where
   hit : List Bool
-  hit = add e (patternBits p)
+  hit = add e (pattern_bits p)
 
   length-hit : length hit ≡ 16
   unfolding hit
-  length-hit = length-add e (patternBits p) ∙ length-pattern p
+  length-hit = length-add e (pattern_bits p) ∙ length-pattern p
 
-  sent : weight e ≤ 3 → syncOf (add e (patternBits p)) ≡ Fits p (weight e)
+  sent : weight e ≤ 3 → sync_of (add e (pattern_bits p)) ≡ Fits p (weight e)
   unfolding hit
   sent k = fits hit p (weight e) length-hit (record { pattern = h; differing = sym (differing-hit p e l); few = k })
 
-  lost : 4 ≤ weight e → weight e ≤ 12 → syncOf (add e (patternBits p)) ≡ Neither
+  lost : 4 ≤ weight e → weight e ≤ 12 → sync_of (add e (pattern_bits p)) ≡ Neither
   unfolding hit
   lost a b =
       neither hit
-      (two p (λ (q : ℕ). differingFrom q hit ≡ weight e → FarFromBoth hit) h
+      (two p (λ (q : ℕ). differing_from q hit ≡ weight e → FarFromBoth hit) h
       (λ d. record { from-0 = omega arith; from-1 = omega (arith, sixteen hit length-hit) })
       (λ d. record { from-0 = omega (arith, sixteen hit length-hit); from-1 = omega arith })
       (differing-hit p e l))
 
-  mistaken : 13 ≤ weight e → syncOf (add e (patternBits p)) ≡ Fits (1 - p) (16 - weight e)
+  mistaken : 13 ≤ weight e → sync_of (add e (pattern_bits p)) ≡ Fits (1 - p) (16 - weight e)
   unfolding hit
   mistaken k =
       let sum = sixteen hit length-hit in
-      two p (λ (q : ℕ). differingFrom q hit ≡ weight e → syncOf hit ≡ Fits (1 - q) (16 - weight e)) h
+      two p (λ (q : ℕ). differing_from q hit ≡ weight e → sync_of hit ≡ Fits (1 - q) (16 - weight e)) h
       (λ d. fits hit 1 (16 - weight e) length-hit (record { pattern = omega arith; differing = omega arith; few = omega arith }))
       (λ d. fits hit 0 (16 - weight e) length-hit (record { pattern = omega arith; differing = omega arith; few = omega arith }))
       (differing-hit p e l)

@@ -10,37 +10,37 @@ abbrev pattern0 : ℕ
 pattern0 = 0b0011010111101110
 
 -- the bits of a pattern, as a number: those of pattern 0, or else their complement
-abbrev pub patternWord : ℕ → ℕ
-patternWord p = cond (eqb p 0) pattern0 (0b1111111111111111 - pattern0)
+abbrev pub pattern_word : ℕ → ℕ
+pattern_word p = cond (eqb p 0) pattern0 (0b1111111111111111 - pattern0)
 
 -- the bits of a pattern
-abbrev pub patternBits : ℕ → List Bool
-patternBits p = bits_of 16 (patternWord p)
+abbrev pub pattern_bits : ℕ → List Bool
+pattern_bits p = bits_of 16 (pattern_word p)
 
 -- in how many bits 16 bits differ from a pattern
-unfoldable pub differingFrom : (pattern : ℕ) → List Bool → ℕ
-differingFrom p s = dist s (patternBits p)
+unfoldable pub differing_from : (pattern : ℕ) → List Bool → ℕ
+differing_from p s = dist s (pattern_bits p)
 
 -- "Accept up to three differing bits from a pattern"
-abbrev pub syncLimit : ℕ
-syncLimit = 3
+abbrev pub sync_limit : ℕ
+sync_limit = 3
 
 -- the pattern test: which pattern 16 bits fit, and in how many they differ from it, or neither
-unfoldable pub syncOf : List Bool → Sync
-syncOf s =
-    cond (leb (differingFrom 0 s) syncLimit) (Fits 0 (differingFrom 0 s))
-    (cond (leb (differingFrom 1 s) syncLimit) (Fits 1 (differingFrom 1 s)) Neither)
+unfoldable pub sync_of : List Bool → Sync
+sync_of s =
+    cond (leb (differing_from 0 s) sync_limit) (Fits 0 (differing_from 0 s))
+    (cond (leb (differing_from 1 s) sync_limit) (Fits 1 (differing_from 1 s)) Neither)
 
 -- ---- document 01's number and the values of an answer: 0 with the pattern and how many bits differ from it, or refusal 3
 
-abbrev pub syncNumber : Sync → ℕ
-syncNumber (Fits p d) = 0
-syncNumber Neither = 3
+abbrev pub sync_number : Sync → ℕ
+sync_number (Fits p d) = 0
+sync_number Neither = 3
 
-abbrev pub fittingPattern : Sync → ℕ
-fittingPattern (Fits p d) = p
-fittingPattern Neither = 0
+abbrev pub fitting_pattern : Sync → ℕ
+fitting_pattern (Fits p d) = p
+fitting_pattern Neither = 0
 
-abbrev pub fittingDiffering : Sync → ℕ
-fittingDiffering (Fits p d) = d
-fittingDiffering Neither = 0
+abbrev pub fitting_differing : Sync → ℕ
+fitting_differing (Fits p d) = d
+fitting_differing Neither = 0

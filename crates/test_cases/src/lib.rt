@@ -7,7 +7,7 @@
 // An answer is a line: the case's number, what the operation tells on its way, a status, and the lent slice as it stands after the call, bytes after a colon, numbers after a
 // space each, all hexadecimal but the case's number. What stands n times in a row in the slice is written once, with `*n`, and of bytes a point.
 ghost use Rattle.std.specs.Prelude.{◌≡◌, ◌<◌, ◌≤◌, true, false, length};
-ghost use Rattle.bits.specs.Field.{getOf};
+ghost use Rattle.bits.specs.Field.{get_of};
 
 use libc::{STDIN_FILENO, STDOUT_FILENO};
 
@@ -98,7 +98,7 @@ pub fn wrong() -> Case
 fn case_of(operation: u8, numbers: &[u8], input: usize, lent: usize) -> Case
     ensures input_value { (result.input ≡ input) × (result.lent ≡ lent) }
     ensures found_value { (result.found ≡ true) × (result.operation ≡ operation) }
-    ensures a_value { (result.a ≡ getOf numbers.now 0 64) × (result.b ≡ getOf numbers.now 64 64) × (result.c ≡ getOf numbers.now 128 64) }
+    ensures a_value { (result.a ≡ get_of numbers.now 0 64) × (result.b ≡ get_of numbers.now 64 64) × (result.c ≡ get_of numbers.now 128 64) }
 {
     Case {
         found: true,

@@ -3,7 +3,7 @@ ghost use Rattle.std.specs.Prelude.{◌+◌, ◌/◌, ◌≤◌, min, ◌≡◌,
 ghost use Rattle.std.specs.Float.{nan, binary64};
 ghost use Rattle.std.specs.Float.Ieee.{of_bits, to_bits};
 ghost use Rattle.bits.specs.Bits.{value, bits};
-ghost use Rattle.test_values.specs.Numbers.{numbersOf};
+ghost use Rattle.test_values.specs.Numbers.{numbers_of};
 
 // One byte in every place.
 pub fn fill(s: &mut [u8], byte: u8)
@@ -34,7 +34,7 @@ fn number_at(s: &[u8], at: usize) -> u64
 pub fn values(s: &[u8], out: &mut [u64]) -> usize
     ensures upper_bound { result ≤ length out.new }
     ensures value { result ≡ min (length s.now / 8) (length out.old) }
-    ensures out_after { out.new ≡ numbersOf result s.now ++ drop result out.old }
+    ensures out_after { out.new ≡ numbers_of result s.now ++ drop result out.old }
 {
     let n = numbers::smaller(s.len() / 8, out.len());
     for i in 0..n {

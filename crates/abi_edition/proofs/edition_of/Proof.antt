@@ -2,17 +2,17 @@
 use mathlib.Core.Path.{sym, ap}
 use mathlib.Core.Bool.{Bool, cond}
 use borrow.Author.Tests.{eq-eqb, ne_eqb}
-use Rattle.abi_edition.specs.Edition.{editionOf}
+use Rattle.abi_edition.specs.Edition.{edition_of}
 use Rattle.frame.specs.declared.Edition.TheVariants.{First, AreaSafety}
 use Rattle.abi_edition.proofs.edition_of.Statement.{statement}
 use Rattle.abi_edition.proofs.edition_of.Tie as tie
 
 returns : tie.Need-returns
-unfolding editionOf
+unfolding edition_of
 returns c = ap (λ (t : Bool). cond t AreaSafety First) (sym (eq-eqb c.before.args.number 1 c.if1.true))
 
 returns-2 : tie.Need-returns-2
-unfolding editionOf
+unfolding edition_of
 returns-2 c = ap (λ (t : Bool). cond t AreaSafety First) (sym (ne_eqb c.before.args.number 1 c.if1.false))
 
 pub edition-of-spec : {M : Type 1} → statement M

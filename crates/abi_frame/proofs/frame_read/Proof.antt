@@ -5,8 +5,8 @@ use Rattle.dsc.specs.Marks.{unmarked}
 use Rattle.frame.specs.declared.Edition.{Edition}
 use Rattle.frame.specs.declared.Tuner.{Tuner}
 use Rattle.frame.specs.Read.{read_by}
-use Rattle.abi_edition.specs.Edition.{editionOf}
-use Rattle.abi_tuner.specs.Tuner.{tunerOf}
+use Rattle.abi_edition.specs.Edition.{edition_of}
+use Rattle.abi_tuner.specs.Tuner.{tuner_of}
 use Rattle.abi_frame.proofs.Cases.{read-wrong, read_told}
 use Rattle.abi_frame.proofs.frame_read.Statement.{statement}
 use Rattle.abi_frame.proofs.frame_read.Tie as tie
@@ -39,8 +39,8 @@ returns-2 c =
     let s = c.before.before.before.before.before.before.before.before.before.before.args in
     let edition = c.before.before.before.before.before.edition-of in
     let tuner = c.before.before.before.before.before.before.tuner-of in
-    let named : edition.result ≡ editionOf s.edition = edition.ensures in
-    let told : tuner.result ≡ tunerOf s.tuner = tuner.ensures in
+    let named : edition.result ≡ edition_of s.edition = edition.ensures in
+    let told : tuner.result ≡ tuner_of s.tuner = tuner.ensures in
     read_told _ unmarked _ _ _ c.before.before.before.before.before.before.before.if1.false
     (c.before.before.before.before.read.ensures ∙ ap₂ (λ (e : Edition) (t : Tuner). read_by e unmarked t s.frame.now) named told) c.before.before.put-reading.ensures
 

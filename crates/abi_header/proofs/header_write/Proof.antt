@@ -1,14 +1,14 @@
 -- `abi_header::header_write` meets its contract. Assumes nothing.
 use mathlib.Core.Path.{refl}
 use borrow.Author.Rules.{rules}
-use Rattle.header.specs.Header.{writeNumber, writeOf}
+use Rattle.header.specs.Header.{write_number, write_of}
 use Rattle.abi.proofs.Writing.{Written, write-wrong, write-answered}
-use Rattle.abi_header.specs.Header.{headerFrom, headerWriteStatus, headerWriteBytes}
+use Rattle.abi_header.specs.Header.{header_from, header_write_status, header_write_bytes}
 use Rattle.abi_header.proofs.header_write.Statement.{statement}
 use Rattle.abi_header.proofs.header_write.Tie as tie
 
-written : Written 145 headerFrom writeNumber writeOf headerWriteStatus headerWriteBytes
-unfolding headerWriteStatus headerWriteBytes
+written : Written 145 header_from write_number write_of header_write_status header_write_bytes
+unfolding header_write_status header_write_bytes
 written = record { is-status = λ v s. refl; is-buffer = λ v s. refl }
 
 returns : tie.Need-returns

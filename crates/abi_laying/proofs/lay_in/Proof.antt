@@ -5,9 +5,9 @@ use Prim.Native.Nat.{ℕ}
 use borrow.Author.Rules.{rules}
 use Rattle.dsc.specs.Marks.{unmarked}
 use Rattle.frame.specs.declared.Edition.{Edition}
-use Rattle.header_laying.specs.Laying.{layInOf}
-use Rattle.abi.specs.Status.{statusOf}
-use Rattle.abi_laying.specs.Laying.{layInStatus}
+use Rattle.header_laying.specs.Laying.{lay_in_of}
+use Rattle.abi.specs.Status.{status_of}
+use Rattle.abi_laying.specs.Laying.{lay_in_status}
 use Rattle.abi_laying.proofs.lay_in.Statement.{statement}
 use Rattle.abi_laying.proofs.lay_in.Tie as tie
 
@@ -30,9 +30,9 @@ returns c =
     let s = named.before.before.before.args in
     let h = s.header.now in
     let f = s.frame.now in
-    let told : c.status.result ≡ statusOf laid.result 0 = c.status.ensures in (
-      told ∙ ap (λ (n : ℕ). statusOf n 0) laid.ensures.0 ∙ ap (λ (e : Edition). layInStatus e unmarked h f) named.edition-of.ensures,
-      laid.ensures.1 ∙ ap (λ (e : Edition). layInOf e unmarked h f) named.edition-of.ensures,
+    let told : c.status.result ≡ status_of laid.result 0 = c.status.ensures in (
+      told ∙ ap (λ (n : ℕ). status_of n 0) laid.ensures.0 ∙ ap (λ (e : Edition). lay_in_status e unmarked h f) named.edition-of.ensures,
+      laid.ensures.1 ∙ ap (λ (e : Edition). lay_in_of e unmarked h f) named.edition-of.ensures,
     )
 
 pub lay-in-spec : {M : Type 1} → statement M

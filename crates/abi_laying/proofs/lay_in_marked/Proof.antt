@@ -4,9 +4,9 @@ use borrow.Author.Rules.{rules}
 use Prim.Native.Nat.{ℕ}
 use Rattle.dsc.specs.Marks.{marked}
 use Rattle.frame.specs.declared.Edition.{Edition}
-use Rattle.header_laying.specs.Laying.{layInOf}
-use Rattle.abi.specs.Status.{statusOf}
-use Rattle.abi_laying.specs.Laying.{layInStatus}
+use Rattle.header_laying.specs.Laying.{lay_in_of}
+use Rattle.abi.specs.Status.{status_of}
+use Rattle.abi_laying.specs.Laying.{lay_in_status}
 use Rattle.abi_laying.proofs.lay_in_marked.Statement.{statement}
 use Rattle.abi_laying.proofs.lay_in_marked.Tie as tie
 
@@ -30,9 +30,9 @@ returns c =
     let q = marked s.marks.now in
     let h = s.header.now in
     let f = s.frame.now in
-    let told : c.status.result ≡ statusOf laid.result 0 = c.status.ensures in (
-      told ∙ ap (λ (n : ℕ). statusOf n 0) laid.ensures.0 ∙ ap (λ (e : Edition). layInStatus e q h f) named.ensures,
-      laid.ensures.1 ∙ ap (λ (e : Edition). layInOf e q h f) named.ensures,
+    let told : c.status.result ≡ status_of laid.result 0 = c.status.ensures in (
+      told ∙ ap (λ (n : ℕ). status_of n 0) laid.ensures.0 ∙ ap (λ (e : Edition). lay_in_status e q h f) named.ensures,
+      laid.ensures.1 ∙ ap (λ (e : Edition). lay_in_of e q h f) named.ensures,
     )
 
 pub lay-in-marked-spec : {M : Type 1} → statement M

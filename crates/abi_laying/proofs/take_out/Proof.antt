@@ -3,7 +3,7 @@
 use mathlib.Core.Path.{◌≡◌, ◌∙◌, ap}
 use Prim.Native.Nat.{ℕ}
 use borrow.Author.Rules.{rules}
-use Rattle.abi.specs.Status.{statusOf}
+use Rattle.abi.specs.Status.{status_of}
 use Rattle.abi_laying.proofs.take_out.Statement.{statement}
 use Rattle.abi_laying.proofs.take_out.Tie as tie
 
@@ -19,8 +19,8 @@ same_length c = search rules
 returns : tie.Need-returns
 returns c =
     let taken = c.before.before.before.take_out in
-    let told : c.status.result ≡ statusOf taken.result 0 = c.status.ensures in
-    (told ∙ ap (λ (n : ℕ). statusOf n 0) taken.ensures.0, taken.ensures.1)
+    let told : c.status.result ≡ status_of taken.result 0 = c.status.ensures in
+    (told ∙ ap (λ (n : ℕ). status_of n 0) taken.ensures.0, taken.ensures.1)
 
 pub take-out-spec : {M : Type 1} → statement M
 take-out-spec = tie.close (tie.spec take-out-requires status-requires same_length returns)

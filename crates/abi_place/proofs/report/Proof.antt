@@ -4,7 +4,7 @@ use native.Mathlib.Omega.{arith}
 use lib.ListN.{length-set}
 use borrow.Author.Rules.{rules}
 use Rattle.frame.specs.declared.Edition.{Edition}
-use Rattle.report.specs.Report.{reportOf}
+use Rattle.report.specs.Report.{report_of}
 use Rattle.abi_place.proofs.Cases.{three-stored, record-wrong, place-wrong, reported}
 use Rattle.abi_place.proofs.report.Statement.{statement}
 use Rattle.abi_place.proofs.report.Tie as tie
@@ -84,7 +84,7 @@ returns-3 c =
     let tested = at.before.before.before in
     let s = tested.before.before.before.before.args in
     reported _ _ _ _ _ _ tested.before.if1.false tested.if2.false at.before.record-at.ensures
-    (at.report.ensures ∙ ap (λ (e : Edition). reportOf e at.before.record-at.result) at.before.before.edition-of.ensures)
+    (at.report.ensures ∙ ap (λ (e : Edition). report_of e at.before.record-at.result) at.before.before.edition-of.ensures)
     c.before.before.latitude.given.1 c.status3.ensures (three-stored s.doubles.now _ _ _ tested.if2.false)
 
 returns-4 : tie.Need-returns-4
@@ -92,7 +92,7 @@ returns-4 c =
     let at = c.before.before.before in
     let tested = at.before.before.before in
     reported _ _ _ _ _ _ tested.before.if1.false tested.if2.false at.before.record-at.ensures
-    (at.report.ensures ∙ ap (λ (e : Edition). reportOf e at.before.record-at.result) at.before.before.edition-of.ensures)
+    (at.report.ensures ∙ ap (λ (e : Edition). report_of e at.before.record-at.result) at.before.before.edition-of.ensures)
     c.before.enum_told.given.1 c.status4.ensures refl
 
 returns-5 : tie.Need-returns-5
@@ -100,7 +100,7 @@ returns-5 c =
     let at = c.before.before.before in
     let tested = at.before.before.before in
     reported _ _ _ _ _ _ tested.before.if1.false tested.if2.false at.before.record-at.ensures
-    (at.report.ensures ∙ ap (λ (e : Edition). reportOf e at.before.record-at.result) at.before.before.edition-of.ensures)
+    (at.report.ensures ∙ ap (λ (e : Edition). report_of e at.before.record-at.result) at.before.before.edition-of.ensures)
     c.before.enum-told2.given.1 c.status5.ensures refl
 
 returns-6 : tie.Need-returns-6
@@ -108,7 +108,7 @@ returns-6 c =
     let at = c.before.before.before in
     let tested = at.before.before.before in
     reported _ _ _ _ _ _ tested.before.if1.false tested.if2.false at.before.record-at.ensures
-    (at.report.ensures ∙ ap (λ (e : Edition). reportOf e at.before.record-at.result) at.before.before.edition-of.ensures)
+    (at.report.ensures ∙ ap (λ (e : Edition). report_of e at.before.record-at.result) at.before.before.edition-of.ensures)
     c.before.enum-told3.given.1 c.status6.ensures refl
 
 returns-7 : tie.Need-returns-7
@@ -116,7 +116,7 @@ returns-7 c =
     let at = c.before.before.before in
     let tested = at.before.before.before in
     reported _ _ _ _ _ _ tested.before.if1.false tested.if2.false at.before.record-at.ensures
-    (at.report.ensures ∙ ap (λ (e : Edition). reportOf e at.before.record-at.result) at.before.before.edition-of.ensures)
+    (at.report.ensures ∙ ap (λ (e : Edition). report_of e at.before.record-at.result) at.before.before.edition-of.ensures)
     c.before.enum-told4.given.1 c.status7.ensures refl
 
 returns-8 : tie.Need-returns-8
@@ -124,7 +124,7 @@ returns-8 c =
     let at = c.before.before.before.before in
     let tested = at.before.before.before in
     reported _ _ _ _ _ _ tested.before.if1.false tested.if2.false at.before.record-at.ensures
-    (at.report.ensures ∙ ap (λ (e : Edition). reportOf e at.before.record-at.result) at.before.before.edition-of.ensures)
+    (at.report.ensures ∙ ap (λ (e : Edition). report_of e at.before.record-at.result) at.before.before.edition-of.ensures)
     c.before.before.number.given.1 c.status8.ensures refl
 
 pub report-spec : {M : Type 1} → statement M

@@ -2,9 +2,9 @@
 use mathlib.Core.Path.{◌≡◌, ◌∙◌, ap}
 use borrow.Author.Rules.{rules}
 use Rattle.frame.specs.declared.Edition.{Edition}
-use Rattle.abi.specs.Status.{statusOf}
+use Rattle.abi.specs.Status.{status_of}
 use Rattle.capture.specs.declared.TunerNumbers.{TunerNumbers}
-use Rattle.abi_receiver.specs.Receiver.{captureNumbers}
+use Rattle.abi_receiver.specs.Receiver.{capture_numbers}
 use Rattle.abi_receiver.proofs.capture_numbers.Statement.{statement}
 use Rattle.abi_receiver.proofs.capture_numbers.Tie as tie
 
@@ -21,10 +21,10 @@ returns : tie.Need-returns
 returns c =
     let numbers = c.before.numbers in
     let s = c.before.before.before.before.before.args in
-    let told : c.status.result ≡ statusOf numbers.result.main numbers.result.spare = c.status.ensures in
+    let told : c.status.result ≡ status_of numbers.result.main numbers.result.spare = c.status.ensures in
     told
-    ∙ ap (λ (t : TunerNumbers). statusOf t.main t.spare) numbers.ensures
-    ∙ ap (λ (e : Edition). captureNumbers e s.main.now s.spare.now s.n) c.before.before.edition-of.ensures
+    ∙ ap (λ (t : TunerNumbers). status_of t.main t.spare) numbers.ensures
+    ∙ ap (λ (e : Edition). capture_numbers e s.main.now s.spare.now s.n) c.before.before.edition-of.ensures
 
 pub capture-numbers-spec : {M : Type 1} → statement M
 capture-numbers-spec = tie.close (tie.spec edition-of-requires numbers-requires status-requires returns)

@@ -4,7 +4,7 @@ use borrow.Author.Rules.{rules}
 use Rattle.frame.specs.declared.Edition.{Edition}
 use Rattle.follower.specs.Follow.{step_of}
 use Rattle.follower.specs.declared.Follower.{Follower}
-use Rattle.abi_receiver.specs.Receiver.{stepStatus, followStatus}
+use Rattle.abi_receiver.specs.Receiver.{step_status, follow_status}
 use Rattle.abi_receiver.proofs.follow.Statement.{statement}
 use Rattle.abi_receiver.proofs.follow.Tie as tie
 
@@ -21,13 +21,13 @@ step-status-requires : tie.Need-step-status-requires
 step-status-requires c κs = search rules
 
 returns : tie.Need-returns
-unfolding followStatus
+unfolding follow_status
 returns c =
     let step = c.before in
     let named = step.before.before in
     let f = named.before.before.args.frame.now in
     c.step-status.ensures
-    ∙ ap stepStatus
+    ∙ ap step_status
     (step.step.ensures
     ∙ ap₂ (λ (e : Edition) (s : Follower). step_of e s f) named.edition-of.ensures step.before.state-of.ensures)
 

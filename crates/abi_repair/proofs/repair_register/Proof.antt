@@ -1,7 +1,7 @@
 -- `abi_repair::repair_register` meets its contract, by the register. Assumes nothing.
 use mathlib.Core.Path.{ap, ◌∙◌}
 use borrow.Author.Rules.{rules}
-use Rattle.dsc.specs.Repair.{leftIn}
+use Rattle.dsc.specs.Repair.{left_in}
 use Rattle.dsc.specs.Marks.{unmarked}
 use Rattle.abi_repair.proofs.RepairCases.{word-length, wrong-buffer, told}
 use Rattle.abi_repair.proofs.repair_register.Statement.{statement}
@@ -38,7 +38,7 @@ returns-2 c =
     let s = a.before.before.before.before.args in
     let e = a.repair.ensures.0.1 in
     told unmarked s.frame.now s.word.now a.before.if1.false (ap (λ r. r.outcome) e) c.status-of.ensures
-    (p.put-answer.ensures ∙ ap (λ r. leftIn r s.word.now) e)
+    (p.put-answer.ensures ∙ ap (λ r. left_in r s.word.now) e)
 
 pub repair-register-spec : {M : Type 1} → statement M
 repair-register-spec =

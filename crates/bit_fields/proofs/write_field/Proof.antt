@@ -5,7 +5,7 @@ use lib.ListN.{length}
 use lib.Seq.{paste, paste-zero}
 use Rattle.bits.specs.Bits.{bits, bits_of}
 use Rattle.bits.proofs.Bits.{length-bits}
-use Rattle.bits.proofs.Field.{putBits-add}
+use Rattle.bits.proofs.Field.{put_bits-add}
 use Rattle.bit_fields.proofs.write_field.Statement.{statement}
 use Rattle.bit_fields.proofs.write_field.Tie as tie
 
@@ -62,7 +62,7 @@ loop-again c =
     let e : 8 * (a.at / 8 + (a.at % 8 + l.i) / 8) + (a.at % 8 + l.i) % 8 ≡ a.at + l.i = omega arith in (
       omega arith,
       put.auto.0 ∙ l.invariant.1,
-      rw (put.ensures, e, l.invariant.2) (putBits-add (bits a.s.now) a.at a.width a.v l.i n (omega (arith, length-bits a.s.now)) (omega arith)),
+      rw (put.ensures, e, l.invariant.2) (put_bits-add (bits a.s.now) a.at a.width a.v l.i n (omega (arith, length-bits a.s.now)) (omega arith)),
     )
 
 same_length : tie.Need-same-length invariant-loop decreases-loop

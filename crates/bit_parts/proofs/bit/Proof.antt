@@ -4,7 +4,7 @@ use native.Mathlib.Omega.{arith}
 use lib.Bits.{and_mask}
 use lib.ListN.{get_or}
 use Rattle.bits.specs.Bits.{digit}
-use Rattle.bits.proofs.Bits.{digit-odd, get_d_bits}
+use Rattle.bits.proofs.Bits.{digit-odd, get_or-bits}
 use borrow.Author.Rules.{rules}
 use Rattle.bit_parts.proofs.bit.Statement.{statement}
 use Rattle.bit_parts.proofs.bit.Tie as tie
@@ -26,7 +26,7 @@ returns c =
     let a = c.before.args in
     let p = c.before.requires in
     let x = get_or a.s.now a.q 0 / 2 ^ (7 - a.r) in
-    and_mask x 1 ∙ sym (ap digit (get_d_bits a.s.now a.q a.r p.1 p.0) ∙ digit-odd x)
+    and_mask x 1 ∙ sym (ap digit (get_or-bits a.s.now a.q a.r p.1 p.0) ∙ digit-odd x)
 
 pub bit-spec : {M : Type 1} → statement M
 bit-spec = tie.close (tie.spec shared-slice-read-result cast-result sub-result shr-result returns)

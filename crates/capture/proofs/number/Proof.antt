@@ -2,7 +2,7 @@
 use mathlib.Core.Path.{sym, ap, ◌∙◌}
 use native.Mathlib.Omega.{arith}
 use borrow.Author.Rules.{rules}
-use Rattle.frame.specs.Read.{frameRefusal, judgeBy}
+use Rattle.frame.specs.Read.{frame_refusal, judge_by}
 use Rattle.frame.specs.declared.Verdict.{Verdict}
 use Rattle.capture.proofs.Choice.{number-within, number_past}
 use Rattle.capture.proofs.number.Statement.{statement}
@@ -15,11 +15,11 @@ judge-requires : tie.Need-judge-requires
 judge-requires c κs = search rules
 
 returns : tie.Need-returns
-unfolding judgeBy
+unfolding judge_by
 returns c =
     let s = c.before.before.before.before.args in
     ap (λ (v : Verdict). v.number) c.judge.ensures
-    ∙ ap (frameRefusal s.edition) c.before.part.ensures.0
+    ∙ ap (frame_refusal s.edition) c.before.part.ensures.0
     ∙ sym (number-within s.edition s.capture.now s.n (omega arith))
 
 returns-2 : tie.Need-returns-2

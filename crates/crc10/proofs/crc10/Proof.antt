@@ -10,8 +10,8 @@ use lib.Pow.{pow_mono}
 use lib.Seq.{take_all, take-add, drop-drop, length-take-le}
 use Rattle.gf2.specs.Register.{feed}
 use Rattle.bits.specs.Bits.{value, bits, bits_of}
-use Rattle.bits.proofs.Bits.{length-bits, value-take-lt, bitsOf-value}
-use Rattle.crc.specs.Crc.{g10, crc10Of}
+use Rattle.bits.proofs.Bits.{length-bits, value-take-lt, bits_of-value}
+use Rattle.crc.specs.Crc.{g10, crc10_of}
 use Rattle.crc.proofs.Crc.{crc10-none, crc10-lt, crc10-turn}
 use Rattle.crc10.proofs.crc10.Statement.{statement}
 use Rattle.crc10.proofs.crc10.Tie as tie
@@ -20,7 +20,7 @@ record Passed (s : List ℕ) (at count r q o left : ℕ) : Type 0 where
   some : left ≤ count
   bit : o < 8
   place : at + (count - left) ≡ 8 * q + o
-  register : r ≡ crc10Of (take (count - left) (drop at (bits s)))
+  register : r ≡ crc10_of (take (count - left) (drop at (bits s)))
 
 abbrev invariant-loop : tie.invariant-loop
 invariant-loop s at count r₀ q₀ o₀ left₀ r q o left = Passed s at count r q o left
@@ -36,7 +36,7 @@ loop-holds c =
       some = omega arith;
       bit = omega arith;
       place = omega arith;
-      register = sym (ap (λ k. crc10Of (take k (drop a.at (bits a.s.now)))) n ∙ crc10-none);
+      register = sym (ap (λ k. crc10_of (take k (drop a.at (bits a.s.now)))) n ∙ crc10-none);
     }
 
 -- no bit of s is left
@@ -47,7 +47,7 @@ returns c =
     let b = drop a.at (bits a.s.now) in
     let n = a.count - l.left in
     let h : length b ≤ n = rw (length-drop, length-bits) (omega (arith, l.invariant.place)) in
-    l.invariant.register ∙ ap crc10Of (take_all n b h ∙ sym (take_all a.count b (omega arith)))
+    l.invariant.register ∙ ap crc10_of (take_all n b h ∙ sym (take_all a.count b (omega arith)))
 
 sub-smaller : tie.Need-overflow-sub-smaller invariant-loop decreases-loop
 sub-smaller c = omega arith
@@ -102,7 +102,7 @@ loop-again c =
     let p = 8 * l.q + l.o in
     let x = take k (drop p b) in
     let lx : length x ≡ k = length-take-le k (drop p b) (rw (length-drop, length-bits) (omega arith)) in
-    let v : bits_of k c.before.read-part.result ≡ x = ap₂ bits_of (sym lx) c.before.read-part.ensures ∙ bitsOf-value x in
+    let v : bits_of k c.before.read-part.result ≡ x = ap₂ bits_of (sym lx) c.before.read-part.ensures ∙ bits_of-value x in
     let d : drop n run ≡ drop p b = drop-drop n a.at b ∙ ap (λ i. drop i b) l.invariant.place in
     let e : n + k ≡ a.count - (l.left - k) = omega arith in
     let m : take n run ++ x ≡ take (a.count - (l.left - k)) run =
@@ -115,7 +115,7 @@ loop-again c =
           c.feed10.ensures
           ∙ ap (λ y. value (feed g10 (bits_of 10 l.r) y)) v
           ∙ crc10-turn (take n run) x l.r l.invariant.register
-          ∙ ap crc10Of m;
+          ∙ ap crc10_of m;
     }
 
 returns-2 : tie.Need-returns-2 invariant-loop decreases-loop
@@ -123,7 +123,7 @@ returns-2 c =
     let a = c.before.before.before.args in
     let l = c.before.loop in
     let e : a.count - l.left ≡ a.count = omega arith in
-    l.invariant.register ∙ ap (λ n. crc10Of (take n (drop a.at (bits a.s.now)))) e
+    l.invariant.register ∙ ap (λ n. crc10_of (take n (drop a.at (bits a.s.now)))) e
 
 pub crc10-spec : {M : Type 1} → statement M
 crc10-spec =

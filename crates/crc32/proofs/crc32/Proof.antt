@@ -9,13 +9,13 @@ use lib.ListN.{length, get_or, take}
 use lib.Seq.{take-suc, take_all}
 use Rattle.bits.specs.Bits.{bits, bits_of}
 use Rattle.bits.proofs.Bits.{bits-snoc}
-use Rattle.crc.specs.Crc.{crc32Of}
+use Rattle.crc.specs.Crc.{crc32_of}
 use Rattle.crc.proofs.Crc.{crc32-turn}
 use Rattle.crc32.proofs.crc32.Statement.{statement}
 use Rattle.crc32.proofs.crc32.Tie as tie
 
 abbrev invariant-loop : tie.invariant-loop
-invariant-loop s r₀ i₀ r i = (i ≤ length s) × (r ≡ crc32Of (bits (take i s)))
+invariant-loop s r₀ i₀ r i = (i ≤ length s) × (r ≡ crc32_of (bits (take i s)))
 
 abbrev decreases-loop : tie.decreases-loop
 decreases-loop s r₀ i₀ r i = length s - i
@@ -48,13 +48,13 @@ loop-again c =
     let i = l.i in
     let m : bits (take (i + 1) s) ≡ bits (take i s) ++ bits_of 8 (get_or s i 0) =
     ap (λ n. bits (take n s)) (add-one i) ∙ ap bits (take-suc s i 0 (omega arith)) ∙ bits-snoc (take i s) (get_or s i 0) in
-    (omega arith, c.feed-byte.ensures ∙ crc32-turn (bits (take i s)) (bits_of 8 (get_or s i 0)) l.r l.invariant.1 ∙ ap crc32Of (sym m))
+    (omega arith, c.feed-byte.ensures ∙ crc32-turn (bits (take i s)) (bits_of 8 (get_or s i 0)) l.r l.invariant.1 ∙ ap crc32_of (sym m))
 
 returns : tie.Need-returns invariant-loop decreases-loop
 returns c =
     let s = c.before.before.before.before.args.s.now in
     let l = c.before.loop in
-    l.invariant.1 ∙ ap (λ x. crc32Of (bits x)) (take_all l.i s (omega arith))
+    l.invariant.1 ∙ ap (λ x. crc32_of (bits x)) (take_all l.i s (omega arith))
 
 pub crc32-spec : {M : Type 1} → statement M
 crc32-spec =

@@ -4,18 +4,18 @@ use Prim.Native.Nat.{ℕ, zero, suc, ◌*◌, ◌/◌, ◌%◌, ◌^◌, ◌<◌
 use native.Mathlib.Omega.{arith}
 use lib.Bits.{bit_xor}
 use lib.Dec.{lit<, lit≤}
-use Rattle.gf2.specs.Polynomial.{add, scale, remainder, checkBits}
+use Rattle.gf2.specs.Polynomial.{add, scale, remainder, check_bits}
 use Rattle.bits.specs.Bits.{digit, odd, value, bits_of}
 use Rattle.crc.specs.Crc.{g32}
-use Rattle.crc.specs.Remainders.{remainderOf}
+use Rattle.crc.specs.Remainders.{remainder_of}
 use Rattle.crc.proofs.Crc.{length-g32}
 use Rattle.crc.proofs.Turn.{index-lt, turn}
 use Rattle.crc32.proofs.feed_bit.Statement.{statement}
 use Rattle.crc32.proofs.feed_bit.Tie as tie
 
 -- what remains of a bit, in place of a byte: the generator, or nothing
-remainder-bit : (k : ℕ) → k < 2 → k * 0x04C11DB7 ≡ remainderOf g32 0 k
-unfolding remainderOf checkBits remainder add scale bits_of odd value digit
+remainder-bit : (k : ℕ) → k < 2 → k * 0x04C11DB7 ≡ remainder_of g32 0 k
+unfolding remainder_of check_bits remainder add scale bits_of odd value digit
 remainder-bit zero h = refl
 remainder-bit (suc zero) h = refl
 remainder-bit (suc (suc k)) h = absurd (omega arith)

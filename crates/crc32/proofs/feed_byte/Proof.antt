@@ -6,9 +6,9 @@ use native.Mathlib.Omega.{arith}
 use lib.Pow.{shr-shr}
 use Rattle.gf2.specs.Register.{feed}
 use Rattle.bits.specs.Bits.{value, bits_of}
-use Rattle.bits.proofs.Bits.{bitsOf-add}
+use Rattle.bits.proofs.Bits.{bits_of-add}
 use Rattle.crc.specs.Crc.{g32}
-use Rattle.lanes.proofs.Number.{bitsOf-low}
+use Rattle.lanes.proofs.Number.{bits_of-low}
 use Rattle.crc.proofs.Turn.{feed-nothing, feed-more}
 use Rattle.crc32.proofs.feed_byte.Statement.{statement}
 use Rattle.crc32.proofs.feed_byte.Tie as tie
@@ -50,7 +50,7 @@ loop-again c =
     let next : 7 - i ≡ 8 - (i + 1) = omega arith in
     let high : a.b / 2 ^ (8 - i) ≡ v / 2 ^ 1 = ap (λ k. a.b / 2 ^ k) above ∙ sym (shr-shr a.b (7 - i) 1) in
     let passed : bits_of i (a.b / 2 ^ (8 - i)) ++ bits_of 1 (v % 2) ≡ bits_of (i + 1) (a.b / 2 ^ (8 - (i + 1))) =
-    ap₂ (λ h b. bits_of i h ++ b) high (bitsOf-low 1 v) ∙ sym (bitsOf-add i 1 v) ∙ ap (λ k. bits_of (i + 1) (a.b / 2 ^ k)) next in (
+    ap₂ (λ h b. bits_of i h ++ b) high (bits_of-low 1 v) ∙ sym (bits_of-add i 1 v) ∙ ap (λ k. bits_of (i + 1) (a.b / 2 ^ k)) next in (
       omega arith,
       c.feed-bit.ensures
           ∙ feed-more g32 32 a.r l.z (bits_of i (a.b / 2 ^ (8 - i))) (bits_of 1 (v % 2)) l.invariant.1

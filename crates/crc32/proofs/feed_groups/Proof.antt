@@ -9,7 +9,7 @@ use lib.Seq.{take-add, length-take-le}
 use Rattle.gf2.specs.Register.{feed}
 use Rattle.bits.specs.Bits.{value, bits, bits_of}
 use Rattle.bits.proofs.Bits.{bits-append}
-use Rattle.crc.specs.Crc.{g32, crc32Of}
+use Rattle.crc.specs.Crc.{g32, crc32_of}
 use Rattle.crc.proofs.Crc.{crc32-none, crc32-turn}
 use Rattle.crc32.proofs.feed_groups.Statement.{statement}
 use Rattle.crc32.proofs.feed_groups.Tie as tie
@@ -17,7 +17,7 @@ use Rattle.crc32.proofs.feed_groups.Tie as tie
 record Passed (s : List ℕ) (r i : ℕ) : Type 0 where
   whole : i % 8 ≡ 0
   inside : i ≤ length s
-  register : r ≡ crc32Of (bits (take i s))
+  register : r ≡ crc32_of (bits (take i s))
 
 abbrev invariant-loop : tie.invariant-loop
 invariant-loop s r₀ i₀ r i = Passed s r i
@@ -72,7 +72,7 @@ loop-again c =
           c.feed-group.ensures
           ∙ ap (λ k. value (feed g32 (bits_of 32 l.r) (bits (take k (drop i s))))) n
           ∙ crc32-turn (bits (take i s)) (bits group) l.r l.invariant.register
-          ∙ ap crc32Of passed;
+          ∙ ap crc32_of passed;
     }
 
 returns : tie.Need-returns invariant-loop decreases-loop
@@ -80,7 +80,7 @@ returns c =
     let s = c.before.before.before.args.s.now in
     let l = c.before.loop in
     let e : l.i ≡ length s / 8 * 8 = omega (arith, l.invariant.whole, l.invariant.inside) in
-    l.invariant.register ∙ ap (λ n. crc32Of (bits (take n s))) e
+    l.invariant.register ∙ ap (λ n. crc32_of (bits (take n s))) e
 
 pub feed-groups-spec : {M : Type 1} → statement M
 feed-groups-spec =

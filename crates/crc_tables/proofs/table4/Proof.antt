@@ -3,10 +3,10 @@ use contract.Running
 use borrow.Fn.Run
 use borrow.Fn.World.{World}
 use borrow.Fn.Written
-use Rattle.gf2.specs.Polynomial.{add, scale, remainder, checkBits}
+use Rattle.gf2.specs.Polynomial.{add, scale, remainder, check_bits}
 use Rattle.bits.specs.Bits.{digit, odd, value, bits_of}
 use Rattle.crc.specs.Crc.{g32}
-use Rattle.crc.specs.Remainders.{remainderOf}
+use Rattle.crc.specs.Remainders.{remainder_of}
 use Rattle.crc_tables.proofs.Entries.{entries, length-entries, entry, entry-fits, narrow32}
 use Rattle.crc_tables.proofs.Lookup.{lookup-meets}
 use Rattle.crc.proofs.Table.{sums, powers}
@@ -17,7 +17,7 @@ use Rattle.crc_tables.proofs.table4.Kinds as kinds
 use Rattle.crc_tables.proofs.table4.Reads as reads
 
 pub table4-spec : {M : Type 1} → statement M
-unfolding entries sums powers remainderOf checkBits remainder add scale bits_of odd value digit code.routine Running.tables_of
+unfolding entries sums powers remainder_of check_bits remainder add scale bits_of odd value digit code.routine Running.tables_of
 table4-spec {M} 𝓤 𝓛 𝓜 𝓡 =
     let w : World = record { M = M; 𝓤 = 𝓤; 𝓛 = 𝓛; 𝓜 = 𝓜; 𝓡 = 𝓡 } in
     Written.close 0 kinds.ps kinds.r reads.Ghost reads.requires reads.ensures reads.pre_read reads.Pinned reads.Owned reads.post_read w code.env key.name

@@ -6,7 +6,7 @@ use native.Mathlib.Omega.{arith}
 use lib.ListN.{length, get_or}
 use borrow.Author.Rules.{rules}
 use borrow.Author.Tests.{ltb-true, ltb-false, not-true, not-false}
-use Rattle.decimals.specs.Reading.{isDigit}
+use Rattle.decimals.specs.Reading.{is_digit}
 use Rattle.decimals.proofs.Readings.{DigitsRead, digits-first, digits-one-more, digits-no-room, digits-before, digits-all, digit-bounds}
 use Rattle.decimals.proofs.read_digits.Statement.{statement}
 use Rattle.decimals.proofs.read_digits.Tie as tie
@@ -30,7 +30,7 @@ shared-slice-read-digit-value : tie.Need-shared-slice-read-digit-value invariant
 shared-slice-read-digit-value c = search rules
 
 -- the byte that is looked at is a digit
-digit : (c : tie.Then1 invariant-loop decreases-loop) → isDigit (get_or c.before.before.before.before.before.before.args.text.now c.before.before.before.before.loop.i 0) ≡ true
+digit : (c : tie.Then1 invariant-loop decreases-loop) → is_digit (get_or c.before.before.before.before.before.before.args.text.now c.before.before.before.before.loop.i 0) ≡ true
 digit c = sym c.before.is_digit.ensures ∙ c.if1.true
 
 digit-value-requires : tie.Need-digit-value-requires invariant-loop decreases-loop

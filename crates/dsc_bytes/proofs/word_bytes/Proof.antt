@@ -6,7 +6,7 @@ use native.Mathlib.Omega.{arith}
 use lib.ListN.{get_or}
 use Rattle.dsc.specs.Repair.{word_bytes}
 use Rattle.dsc_bytes.specs.Padded.{padded}
-use Rattle.dsc.proofs.Answers.{length-wordBytes}
+use Rattle.dsc.proofs.Answers.{length-word_bytes}
 use Rattle.dsc_bits.proofs.Octets.{bytes-at}
 use Rattle.dsc_bits.proofs.Steps.{Filled, filled_none, filled_next, filled-list}
 use Rattle.dsc_bytes.proofs.word_bytes.Statement.{statement}
@@ -44,7 +44,7 @@ returns : tie.Need-returns invariant-loop decreases-loop
 returns c =
     let a = c.before in
     let w = a.before.before.args.w.now in
-    filled-list (word_bytes w) a.loop.invariant (omega arith) (length-wordBytes w)
+    filled-list (word_bytes w) a.loop.invariant (omega arith) (length-word_bytes w)
 
 pub word-bytes-spec : {M : Type 1} → statement M
 word-bytes-spec =

@@ -2,8 +2,8 @@
 use mathlib.Core.Path.{ap, ◌∙◌}
 use lib.ListN.{take}
 use Rattle.bits.specs.Field.{put_of}
-use Rattle.dsc.specs.Code.{parityOf}
-use Rattle.dsc.specs.Encoding.{messageOf}
+use Rattle.dsc.specs.Code.{parity_of}
+use Rattle.dsc.specs.Encoding.{message_of}
 use Rattle.dsc.proofs.Encoding.{encode-short, put-halves}
 use borrow.Author.Rules.{rules}
 use Rattle.dsc_codec.proofs.encode.Statement.{statement}
@@ -45,14 +45,14 @@ same_length : tie.Need-same-length
 same_length c = search rules
 
 returns-2 : tie.Need-returns-2
-unfolding messageOf
+unfolding message_of
 returns-2 c =
     let f = c.before.before.before.before.before.before.before.before.before.before.before.before.before.before.before.before.before.before.args.frame.now in
     let p = c.before.before.before.before.before.before.before.before.before.before.before.before.parity in
     c.before.before.put2.ensures
     ∙ ap (λ s. put_of s 163 41 c.before.before.before.before.before.before.before.before.number2.result) c.before.before.before.before.before.before.put.ensures
     ∙ put-halves f c.before.before.before.before.before.before.before.before.before.before.before.before.before.before.before.before.if1.false p.result c.before.before.before.before.before.before.before.before.before.before.number.result c.before.before.before.before.before.before.before.before.number2.result
-    (p.ensures ∙ ap (λ w. parityOf (take 105 w)) c.before.before.before.before.before.before.before.before.before.before.before.before.before.before.received.ensures) c.before.before.before.before.before.before.before.before.before.before.number.ensures c.before.before.before.before.before.before.before.before.number2.ensures
+    (p.ensures ∙ ap (λ w. parity_of (take 105 w)) c.before.before.before.before.before.before.before.before.before.before.before.before.before.before.received.ensures) c.before.before.before.before.before.before.before.before.before.before.number.ensures c.before.before.before.before.before.before.before.before.number2.ensures
 
 pub encode-spec : {M : Type 1} → statement M
 encode-spec =

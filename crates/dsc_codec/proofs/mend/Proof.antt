@@ -2,7 +2,7 @@
 use mathlib.Core.Path.{ap, ◌∙◌}
 use lib.Bits.{xor_lt}
 use borrow.Author.Rules.{rules}
-use Rattle.dsc.specs.Repair.{repairedTo}
+use Rattle.dsc.specs.Repair.{repaired_to}
 use Rattle.dsc_words.proofs.Words.{length-held}
 use Rattle.dsc_codec.proofs.Verdict.{no_word, mended}
 use Rattle.dsc_codec.proofs.mend.Statement.{statement}
@@ -31,7 +31,7 @@ returns-2 c =
     let s = t.before in
     let x = s.args in (
       search rules,
-      ap (λ u. repairedTo u x.places) c.sum.ensures.1
+      ap (λ u. repaired_to u x.places) c.sum.ensures.1
           ∙ mended (length-held x.received) (length-held x.errors) s.requires.2 t.middle-sums.ensures c.before.if1.false,
     )
 

@@ -1,7 +1,7 @@
 -- `dsc_codec::repair_into` meets its contract. Assumes nothing.
 use mathlib.Core.Path.{sym}
 use borrow.Author.Rules.{rules}
-use Rattle.dsc.specs.Repair.{repairOf}
+use Rattle.dsc.specs.Repair.{repair_of}
 use Rattle.dsc.proofs.Answers.{repair-short, left-refused, left-repaired}
 use Rattle.dsc_words.specs.Words.{held}
 use Rattle.dsc_codec.proofs.Verdict.{near, far-off, answered}
@@ -11,7 +11,7 @@ use Rattle.dsc_codec.proofs.repair_into.Tie as tie
 returns : tie.Need-returns
 returns c =
     let s = c.before.before.before.args in
-    left-refused (repairOf s.frame.now) s.word.now (sym (repair-short s.frame.now c.if1.true))
+    left-refused (repair_of s.frame.now) s.word.now (sym (repair-short s.frame.now c.if1.true))
 
 received-requires : tie.Need-received-requires
 received-requires c κs = search rules
@@ -40,7 +40,7 @@ returns-2 c =
     let x = k.before.before in
     let v = x.before in
     let s = v.before.before.before.before.args in
-    left-repaired (repairOf s.frame.now) s.word.now (held k.found.given.0.0)
+    left-repaired (repair_of s.frame.now) s.word.now (held k.found.given.0.0)
     (answered s.frame.now v.before.if1.false v.received.ensures.1 (near _ x.find.result x.find.ensures k.found.given.1).1) p.put_word.ensures
 
 returns-3 : tie.Need-returns-3
@@ -48,7 +48,7 @@ returns-3 c =
     let x = c.before.before in
     let v = x.before in
     let s = v.before.before.before.before.args in
-    left-refused (repairOf s.frame.now) s.word.now
+    left-refused (repair_of s.frame.now) s.word.now
     (answered s.frame.now v.before.if1.false v.received.ensures.1 (far-off _ x.find.result x.find.ensures c.enum_told.given.1))
 
 pub repair-into-spec : {M : Type 1} → statement M

@@ -1,7 +1,7 @@
 -- `dsc_errors::errors` meets its contract: each way out by the majorities that are known by then. Assumes nothing.
 use native.Mathlib.Omega.{arith}
 use borrow.Author.Rules.{rules}
-use Rattle.dsc_words.proofs.Words.{weight-wordOf}
+use Rattle.dsc_words.proofs.Words.{weight-word_of}
 use Rattle.dsc_errors.proofs.ErrorWord.{cut_fits, many-low, many-middle, many-high, error-word}
 use Rattle.dsc_errors.proofs.errors.Statement.{statement}
 use Rattle.dsc_errors.proofs.errors.Tie as tie
@@ -84,7 +84,7 @@ returns-4 c =
         c.before.ones3.ensures,
         z.before.before.ones2.ensures,
         y.before.before.ones.ensures,
-        weight-wordOf x.majority.result y.majority2.result _ (search rules) (search rules) fits,
+        weight-word_of x.majority.result y.majority2.result _ (search rules) (search rules) fits,
       ),
       omega (arith, c.if3.false),
     )

@@ -5,14 +5,14 @@ use Prim.Native.Nat.{◌≤◌, ◌-◌}
 use native.Mathlib.Omega.{arith}
 use lib.ListN.{drop}
 use Rattle.gf2.specs.Polynomial.{◌⊕◌}
-use Rattle.dsc.specs.CheckTable.{sumOver, row, coefficient, syndrome}
+use Rattle.dsc.specs.CheckTable.{sum_over, row, coefficient, syndrome}
 use Rattle.dsc.proofs.TableRows.{length-row, row-at}
 use Rattle.dsc_bits.proofs.Steps.{sum-next, sum_done}
 use Rattle.dsc_majority.proofs.check_sum.Statement.{statement}
 use Rattle.dsc_majority.proofs.check_sum.Tie as tie
 
 abbrev invariant-loop : tie.invariant-loop
-invariant-loop t s q sum₀ i₀ sum i = (i ≤ 17) × (sum ⊕ sumOver (coefficient s) (drop i (row q)) ≡ syndrome s q)
+invariant-loop t s q sum₀ i₀ sum i = (i ≤ 17) × (sum ⊕ sum_over (coefficient s) (drop i (row q)) ≡ syndrome s q)
 
 abbrev decreases-loop : tie.decreases-loop
 decreases-loop t s q sum₀ i₀ sum i = 17 - i

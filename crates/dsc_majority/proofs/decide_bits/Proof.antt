@@ -7,7 +7,7 @@ use native.Mathlib.Omega.{arith}
 use lib.ListN.{length, drop}
 use Rattle.gf2.specs.Register.{step}
 use Rattle.gf2.proofs.Register.{length-step}
-use Rattle.dsc.specs.Code.{generatorLow}
+use Rattle.dsc.specs.Code.{generator_low}
 use Rattle.dsc.proofs.Word.{length-low}
 use Rattle.dsc_bits.specs.Words.{at}
 use Rattle.dsc_bits.proofs.Steps.{Filled, filled_none, filled_next, filled-list}
@@ -60,9 +60,9 @@ loop-again c =
     let s' = c.shift.new.1.0 in
     let h : n < length r = omega (arith, start.requires) in
     let turned : s' ≡ step start.args.g.now s false = c.shift.ensures in
-    let e : s' ≡ step generatorLow s false = turned ∙ ap (λ g. step g s false) start.requires.0 in (
+    let e : s' ≡ step generator_low s false = turned ∙ ap (λ g. step g s false) start.requires.0 in (
       filled_next a.loop.invariant.0 (omega arith) (d.decide.ensures ∙ decided-at s₀ r s n h a.loop.invariant.2),
-      ap length e ∙ length-step generatorLow s false ∙ a.loop.invariant.1,
+      ap length e ∙ length-step generator_low s false ∙ a.loop.invariant.1,
       decided-next s₀ r s n h a.loop.invariant.2 s' e,
     )
 

@@ -1,7 +1,7 @@
 -- `dsc_majority::decide_word` meets its contract. Assumes nothing.
 use mathlib.Core.Path.{ap, ◌∙◌}
 use borrow.Author.Rules.{rules}
-use Rattle.dsc_shift_register.specs.Register.{decided, registerWord}
+use Rattle.dsc_shift_register.specs.Register.{decided, register_word}
 use Rattle.dsc_majority.proofs.decide_word.Statement.{statement}
 use Rattle.dsc_majority.proofs.decide_word.Tie as tie
 
@@ -12,7 +12,7 @@ decide-bits-requires : tie.Need-decide-bits-requires
 decide-bits-requires c κs = search rules
 
 returns : tie.Need-returns
-unfolding registerWord
+unfolding register_word
 returns c =
     let l = c.before.before in
     let r = l.before.before.before.before.args.r.now in

@@ -9,12 +9,12 @@ use Rattle.dsc.specs.Code.{count}
 use Rattle.dsc.specs.CheckTable.{differences, rows_of, syndrome, failures}
 use Rattle.dsc.proofs.TableRows.{length-rows, rows_at}
 use Rattle.dsc_bits.proofs.Steps.{count_next, count-done}
-use Rattle.dsc_shift_register.specs.Register.{decidedPlace}
+use Rattle.dsc_shift_register.specs.Register.{decided_place}
 use Rattle.dsc_majority.proofs.failure_count.Statement.{statement}
 use Rattle.dsc_majority.proofs.failure_count.Tie as tie
 
 abbrev invariant-loop : tie.invariant-loop
-invariant-loop t s n₀ i₀ n i = (i ≤ 17) × (n ≤ i) × (n + count (syndrome s) (drop i (rows_of decidedPlace)) ≡ failures s decidedPlace)
+invariant-loop t s n₀ i₀ n i = (i ≤ 17) × (n ≤ i) × (n + count (syndrome s) (drop i (rows_of decided_place)) ≡ failures s decided_place)
 
 abbrev decreases-loop : tie.decreases-loop
 decreases-loop t s n₀ i₀ n i = 17 - i
@@ -45,12 +45,12 @@ loop-again c =
     let a = c.before.before.before.before in
     let s = a.before.before.before.args.s.now in
     let d = get_or differences a.loop.i 0 in
-    let q : c.before.before.row-through.result ≡ (decidedPlace + d) % 273 = omega (arith, c.before.before.row-through.ensures.0) in (
+    let q : c.before.before.row-through.result ≡ (decided_place + d) % 273 = omega (arith, c.before.before.row-through.ensures.0) in (
       omega arith,
       omega (arith, c.one.ensures.1),
-      count_next (syndrome s) (rows_of decidedPlace) a.loop.i a.loop.n c.one.result _ (omega (arith, length-rows decidedPlace))
+      count_next (syndrome s) (rows_of decided_place) a.loop.i a.loop.n c.one.result _ (omega (arith, length-rows decided_place))
           (c.one.ensures.0
-          ∙ ap digit (c.before.check-sum.ensures ∙ ap (syndrome s) (q ∙ sym (rows_at decidedPlace a.loop.i (omega arith)))))
+          ∙ ap digit (c.before.check-sum.ensures ∙ ap (syndrome s) (q ∙ sym (rows_at decided_place a.loop.i (omega arith)))))
           a.loop.invariant.2,
     )
 
@@ -58,7 +58,7 @@ returns : tie.Need-returns invariant-loop decreases-loop
 returns c =
     let a = c.before in
     let s = a.before.before.before.args.s.now in
-    count-done (syndrome s) (rows_of decidedPlace) a.loop.i a.loop.n _ (omega (arith, length-rows decidedPlace)) a.loop.invariant.2
+    count-done (syndrome s) (rows_of decided_place) a.loop.i a.loop.n _ (omega (arith, length-rows decided_place)) a.loop.invariant.2
 
 pub failure-count-spec : {M : Type 1} → statement M
 failure-count-spec =

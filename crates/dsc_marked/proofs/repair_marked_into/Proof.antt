@@ -1,5 +1,5 @@
 -- `dsc_marked::repair_marked_into` meets its contract. Assumes nothing.
-use Rattle.dsc.specs.Marks.{markedRepairOf}
+use Rattle.dsc.specs.Marks.{marked_repair_of}
 use Rattle.dsc_words.specs.Words.{held}
 use Rattle.dsc.proofs.Answers.{left-refused, left-repaired}
 use Rattle.dsc_marked.proofs.Cases.{marked-near, marked-far, short-frame, short-marks, answered}
@@ -12,14 +12,14 @@ returns c =
     let s = c.before.before.before.before.args in
     let f = s.frame.now in
     let m = s.marks.now in
-    left-refused (markedRepairOf f m) s.word.now (short-frame f m c.if1.true)
+    left-refused (marked_repair_of f m) s.word.now (short-frame f m c.if1.true)
 
 returns-2 : tie.Need-returns-2
 returns-2 c =
     let s = c.before.before.before.before.before.args in
     let f = s.frame.now in
     let m = s.marks.now in
-    left-refused (markedRepairOf f m) s.word.now (short-marks f m c.if2.true)
+    left-refused (marked_repair_of f m) s.word.now (short-marks f m c.if2.true)
 
 received-requires : tie.Need-received-requires
 received-requires c κs = search rules
@@ -56,7 +56,7 @@ returns-3 c =
     let s = i.before.before.before.before.before.args in
     let f = s.frame.now in
     let m = s.marks.now in
-    left-repaired (markedRepairOf f m) s.word.now (held k.found.given.0.0)
+    left-repaired (marked_repair_of f m) s.word.now (held k.found.given.0.0)
     (answered f m i.before.if1.false i.if2.false z.received.ensures.1 y.received2.ensures.1
     (marked-near _ _ x.find-marked.result x.find-marked.ensures k.found.given.1).1)
     p.put_word.ensures
@@ -70,7 +70,7 @@ returns-4 c =
     let s = i.before.before.before.before.before.args in
     let f = s.frame.now in
     let m = s.marks.now in
-    left-refused (markedRepairOf f m) s.word.now
+    left-refused (marked_repair_of f m) s.word.now
     (answered f m i.before.if1.false i.if2.false z.received.ensures.1 y.received2.ensures.1
     (marked-far _ _ x.find-marked.result x.find-marked.ensures c.enum_told.given.1))
 

@@ -1,7 +1,7 @@
 -- `dsc_register::repair` meets its contract: demand 3, by the register. Assumes nothing.
 use mathlib.Core.Path.{ap, ◌∙◌}
 use borrow.Author.Rules.{rules}
-use Rattle.dsc_shift_register.specs.Register.{registerAnswer}
+use Rattle.dsc_shift_register.specs.Register.{register_answer}
 use Rattle.dsc_register.proofs.Cases.{repair-short, repair-long, register-met}
 use Rattle.dsc_register.proofs.repair.Statement.{statement}
 use Rattle.dsc_register.proofs.repair.Tie as tie
@@ -27,7 +27,7 @@ returns-2 : tie.Need-returns-2
 returns-2 c =
     let f = c.before.before.before.before.before.args.frame.now in
     register-met f c.repair-word.result
-    (c.repair-word.ensures ∙ ap registerAnswer c.before.before.received.ensures ∙ repair-long f c.before.before.before.if1.false)
+    (c.repair-word.ensures ∙ ap register_answer c.before.before.received.ensures ∙ repair-long f c.before.before.before.if1.false)
 
 pub repair-spec : {M : Type 1} → statement M
 repair-spec =

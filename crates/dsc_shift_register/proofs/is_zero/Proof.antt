@@ -4,13 +4,13 @@ use mathlib.Core.Path.{◌≡◌, refl}
 use Prim.Native.Nat.{◌≤◌, ◌-◌}
 use native.Mathlib.Omega.{arith}
 use lib.ListN.{drop}
-use Rattle.dsc.specs.Code.{allZero}
+use Rattle.dsc.specs.Code.{all_zero}
 use Rattle.dsc_shift_register.proofs.Turns.{zero-next, zero-not, zero-done}
 use Rattle.dsc_shift_register.proofs.is_zero.Statement.{statement}
 use Rattle.dsc_shift_register.proofs.is_zero.Tie as tie
 
 abbrev invariant-loop : tie.invariant-loop
-invariant-loop s j₀ j = (j ≤ 82) × (allZero (drop j s) ≡ allZero s)
+invariant-loop s j₀ j = (j ≤ 82) × (all_zero (drop j s) ≡ all_zero s)
 
 abbrev decreases-loop : tie.decreases-loop
 decreases-loop s j₀ j = 82 - j
@@ -25,7 +25,7 @@ returns : tie.Need-returns invariant-loop decreases-loop
 returns c =
     let a = c.before.before.before in
     let s = a.before.args.s.now in
-    zero-not s a.loop.j (allZero s) (omega arith) c.if1.true a.loop.invariant.1
+    zero-not s a.loop.j (all_zero s) (omega arith) c.if1.true a.loop.invariant.1
 
 add-j : tie.Need-overflow-add-j invariant-loop decreases-loop
 add-j c = search rules
@@ -37,13 +37,13 @@ loop-again : tie.Need-loop-preserved invariant-loop decreases-loop
 loop-again c =
     let a = c.before.before.before in
     let s = a.before.args.s.now in
-    (omega arith, zero-next s a.loop.j (allZero s) (omega arith) c.if1.false a.loop.invariant.1)
+    (omega arith, zero-next s a.loop.j (all_zero s) (omega arith) c.if1.false a.loop.invariant.1)
 
 returns-2 : tie.Need-returns-2 invariant-loop decreases-loop
 returns-2 c =
     let a = c.before in
     let s = a.before.args.s.now in
-    zero-done s a.loop.j (allZero s) (omega arith) a.loop.invariant.1
+    zero-done s a.loop.j (all_zero s) (omega arith) a.loop.invariant.1
 
 pub is-zero-spec : {M : Type 1} → statement M
 is-zero-spec =

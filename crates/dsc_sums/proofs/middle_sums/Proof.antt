@@ -2,7 +2,7 @@
 use native.Mathlib.Omega.{arith}
 use borrow.Author.Rules.{rules}
 use Rattle.dsc_words.specs.Words.{word_of}
-use Rattle.dsc_words.proofs.Words.{length-wordOf}
+use Rattle.dsc_words.proofs.Words.{length-word_of}
 use Rattle.dsc_sums.proofs.Products.{limb-sums}
 use Rattle.dsc_sums.proofs.middle_sums.Statement.{statement}
 use Rattle.dsc_sums.proofs.middle_sums.Tie as tie
@@ -17,7 +17,7 @@ returns : tie.Need-returns
 returns c =
     let v = c.before.before.args.w in
     let w = word_of v.low v.middle v.high in
-    let l = length-wordOf v.low v.middle v.high in (
+    let l = length-word_of v.low v.middle v.high in (
       limb-sums w l c.before.limb2.ensures (omega arith) (omega arith) (omega arith),
       limb-sums w l c.limb3.ensures (omega arith) (omega arith) (omega arith),
     )

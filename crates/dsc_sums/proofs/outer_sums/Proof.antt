@@ -2,7 +2,7 @@
 use native.Mathlib.Omega.{arith}
 use borrow.Author.Rules.{rules}
 use Rattle.dsc_words.specs.Words.{word_of}
-use Rattle.dsc_words.proofs.Words.{length-wordOf}
+use Rattle.dsc_words.proofs.Words.{length-word_of}
 use Rattle.dsc_sums.proofs.Products.{limb-sums, folded-sums}
 use Rattle.dsc_sums.proofs.outer_sums.Statement.{statement}
 use Rattle.dsc_sums.proofs.outer_sums.Tie as tie
@@ -29,7 +29,7 @@ returns c =
     let fourth = c.before.before.before.before.limb4 in
     let v = c.before.before.before.before.before.args.w in
     let w = word_of v.low v.middle v.high in
-    let l = length-wordOf v.low v.middle v.high in (
+    let l = length-word_of v.low v.middle v.high in (
       folded-sums w l {k = 0} (search rules) (search rules) c.before.limb0.ensures fourth.ensures fifth.ensures (omega arith),
       folded-sums w l {k = 1} (search rules) (search rules) c.limb1.ensures fifth.ensures sixth.ensures (omega arith),
       limb-sums w l fourth.ensures (omega arith) (omega arith) (omega arith),

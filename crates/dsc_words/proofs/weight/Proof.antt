@@ -3,7 +3,7 @@ use mathlib.Core.Path.{◌≡◌}
 use native.Mathlib.Omega.{arith}
 use lib.Count.{ones}
 use borrow.Author.Rules.{rules}
-use Rattle.dsc_words.proofs.Words.{weight-wordOf}
+use Rattle.dsc_words.proofs.Words.{weight-word_of}
 use Rattle.dsc_words.proofs.weight.Statement.{statement}
 use Rattle.dsc_words.proofs.weight.Tie as tie
 
@@ -29,7 +29,7 @@ returns c =
     let low : c.before.before.ones.result ≡ ones w.low = c.before.before.ones.ensures.0 in
     let middle : c.before.ones2.result ≡ ones w.middle = c.before.ones2.ensures.0 in
     let high : c.ones3.result ≡ ones w.high = c.ones3.ensures.0 in
-    (omega (arith, weight-wordOf w.low w.middle w.high (search rules) (search rules) s.requires), omega arith)
+    (omega (arith, weight-word_of w.low w.middle w.high (search rules) (search rules) s.requires), omega arith)
 
 pub weight-spec : {M : Type 1} → statement M
 weight-spec =

@@ -2,7 +2,7 @@
 use mathlib.Core.Path.{sym, ap, ◌∙◌}
 use borrow.Author.Rules.{rules}
 use Rattle.frame.specs.declared.Class.{Class}
-use Rattle.follower.specs.Follow.{seenIn, seenOf}
+use Rattle.follower.specs.Follow.{seen_in, seen_of}
 use Rattle.follower.proofs.seen_of.Statement.{statement}
 use Rattle.follower.proofs.seen_of.Tie as tie
 
@@ -26,8 +26,8 @@ returns-2 c =
     let known = c.before.before.before in
     let s = known.before.before.args in
     c.seen-in.ensures
-    ∙ ap (λ (k : Class). seenIn k known.reading2.given.0.0) c.before.class_of.ensures
-    ∙ ap (seenOf s.edition) (sym known.reading2.given.1)
+    ∙ ap (λ (k : Class). seen_in k known.reading2.given.0.0) c.before.class_of.ensures
+    ∙ ap (seen_of s.edition) (sym known.reading2.given.1)
 
 pub seen-of-spec : {M : Type 1} → statement M
 seen-of-spec =

@@ -4,26 +4,26 @@ use Prim.Native.Nat.{◌+◌, ◌%◌}
 use native.Mathlib.Omega.{arith}
 use borrow.Author.Tests.{eq-eqb, ne_eqb}
 use borrow.Author.Rules.{rules}
-use Rattle.follower_events.specs.Events.{changeOf}
+use Rattle.follower_events.specs.Events.{change_of}
 use Rattle.follower_events.proofs.change.Statement.{statement}
 use Rattle.follower_events.proofs.change.Tie as tie
 
 returns : tie.Need-returns
-unfolding changeOf
+unfolding change_of
 returns c = rw (eq-eqb _ _ c.if1.true)
 
 add-if2 : tie.Need-overflow-add-if2
 add-if2 c = search rules
 
 returns-2 : tie.Need-returns-2
-unfolding changeOf
+unfolding change_of
 returns-2 c =
     let old = c.before.before.args.old in
     let new = c.before.before.args.new in
     rw (ne_eqb new old c.before.if1.false, eq-eqb new ((old + 1) % 4) (omega arith))
 
 returns-3 : tie.Need-returns-3
-unfolding changeOf
+unfolding change_of
 returns-3 c =
     let old = c.before.before.args.old in
     let new = c.before.before.args.new in

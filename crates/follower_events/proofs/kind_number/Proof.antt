@@ -2,7 +2,7 @@
 -- Assumes nothing.
 use mathlib.Core.Path.{sym, ap}
 use borrow.Author.Rules.{rules}
-use Rattle.follower_events.specs.Events.{kindNumber}
+use Rattle.follower_events.specs.Events.{kind_number}
 use Rattle.follower_events.proofs.kind_number.Statement.{statement}
 use Rattle.follower_events.proofs.kind_number.Tie as tie
 
@@ -19,16 +19,16 @@ enum-told-4 : tie.Need-enum-told-4
 enum-told-4 c = search rules
 
 returns : tie.Need-returns
-returns c = ap kindNumber (sym c.enum_told.given.1)
+returns c = ap kind_number (sym c.enum_told.given.1)
 
 returns-2 : tie.Need-returns-2
-returns-2 c = ap kindNumber (sym c.enum-told2.given.1)
+returns-2 c = ap kind_number (sym c.enum-told2.given.1)
 
 returns-3 : tie.Need-returns-3
-returns-3 c = ap kindNumber (sym c.enum-told3.given.1)
+returns-3 c = ap kind_number (sym c.enum-told3.given.1)
 
 returns-4 : tie.Need-returns-4
-returns-4 c = ap kindNumber (sym c.enum-told4.given.1)
+returns-4 c = ap kind_number (sym c.enum-told4.given.1)
 
 pub kind-number-spec : {M : Type 1} → statement M
 kind-number-spec =

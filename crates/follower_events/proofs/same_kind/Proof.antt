@@ -1,4 +1,4 @@
--- `follower_events::same_kind` meets its contract. Assumes nothing.
+-- `follower_events::same-kind` meets its contract. Assumes nothing.
 use mathlib.Core.Path.{ap₂}
 use lib.Dec.{eqb}
 use borrow.Author.Rules.{rules}

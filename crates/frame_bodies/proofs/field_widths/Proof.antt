@@ -1,7 +1,7 @@
 -- `frame_bodies::field_widths` meets its contract. Assumes nothing.
-use Rattle.bits.specs.Segment.{freeWidths}
+use Rattle.bits.specs.Segment.{free_widths}
 use Rattle.frame.specs.Body.{row, layout}
-use Rattle.frame.specs.Fields.{scatter, fieldWidths}
+use Rattle.frame.specs.Fields.{scatter, field_widths}
 use mathlib.Core.Path.{ap, sym}
 use borrow.Author.Rules.{rules}
 use Rattle.frame_bodies.proofs.field_widths.Statement.{statement}
@@ -23,24 +23,24 @@ enum-told-5 : tie.Need-enum-told-5
 enum-told-5 c = search rules
 
 returns : tie.Need-returns
-unfolding row layout scatter fieldWidths freeWidths
-returns c = ap fieldWidths (sym c.enum_told.given.1)
+unfolding row layout scatter field_widths free_widths
+returns c = ap field_widths (sym c.enum_told.given.1)
 
 returns-2 : tie.Need-returns-2
-unfolding row layout scatter fieldWidths freeWidths
-returns-2 c = ap fieldWidths (sym c.enum-told2.given.1)
+unfolding row layout scatter field_widths free_widths
+returns-2 c = ap field_widths (sym c.enum-told2.given.1)
 
 returns-3 : tie.Need-returns-3
-unfolding row layout scatter fieldWidths freeWidths
-returns-3 c = ap fieldWidths (sym c.enum-told3.given.1)
+unfolding row layout scatter field_widths free_widths
+returns-3 c = ap field_widths (sym c.enum-told3.given.1)
 
 returns-4 : tie.Need-returns-4
-unfolding row layout scatter fieldWidths freeWidths
-returns-4 c = ap fieldWidths (sym c.enum-told4.given.1)
+unfolding row layout scatter field_widths free_widths
+returns-4 c = ap field_widths (sym c.enum-told4.given.1)
 
 returns-5 : tie.Need-returns-5
-unfolding row layout scatter fieldWidths freeWidths
-returns-5 c = ap fieldWidths (sym c.enum-told5.given.1)
+unfolding row layout scatter field_widths free_widths
+returns-5 c = ap field_widths (sym c.enum-told5.given.1)
 
 pub field-widths-spec : {M : Type 1} → statement M
 field-widths-spec =

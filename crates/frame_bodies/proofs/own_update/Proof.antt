@@ -1,6 +1,6 @@
 -- `frame_bodies::own_update` meets its contract. Assumes nothing.
 use mathlib.Core.Path.{ap, sym}
-use Rattle.frame.specs.Body.{ownUpdate}
+use Rattle.frame.specs.Body.{own_update}
 use Rattle.frame.specs.declared.Body.{Body}
 use borrow.Author.Rules.{rules}
 use Rattle.frame_bodies.proofs.own_update.Statement.{statement}
@@ -22,19 +22,19 @@ enum-told-5 : tie.Need-enum-told-5
 enum-told-5 c = search rules
 
 returns : tie.Need-returns
-returns c = ap (λ (b : Body). ownUpdate b c.before.before.args.update) (sym c.enum_told.given.1)
+returns c = ap (λ (b : Body). own_update b c.before.before.args.update) (sym c.enum_told.given.1)
 
 returns-2 : tie.Need-returns-2
-returns-2 c = ap (λ (b : Body). ownUpdate b c.before.before.args.update) (sym c.enum-told2.given.1)
+returns-2 c = ap (λ (b : Body). own_update b c.before.before.args.update) (sym c.enum-told2.given.1)
 
 returns-3 : tie.Need-returns-3
-returns-3 c = ap (λ (b : Body). ownUpdate b c.before.before.args.update) (sym c.enum-told3.given.1)
+returns-3 c = ap (λ (b : Body). own_update b c.before.before.args.update) (sym c.enum-told3.given.1)
 
 returns-4 : tie.Need-returns-4
-returns-4 c = ap (λ (b : Body). ownUpdate b c.before.before.args.update) (sym c.enum-told4.given.1)
+returns-4 c = ap (λ (b : Body). own_update b c.before.before.args.update) (sym c.enum-told4.given.1)
 
 returns-5 : tie.Need-returns-5
-returns-5 c = ap (λ (b : Body). ownUpdate b c.before.before.args.update) (sym c.enum-told5.given.1)
+returns-5 c = ap (λ (b : Body). own_update b c.before.before.args.update) (sym c.enum-told5.given.1)
 
 pub own-update-spec : {M : Type 1} → statement M
 own-update-spec =

@@ -1,7 +1,7 @@
 -- `frame_follower::step` meets its contract. Assumes nothing.
 use mathlib.Core.Path.{ap, ◌∙◌}
 use borrow.Author.Rules.{rules}
-use Rattle.follower.specs.Follow.{stepSeen, seenOf, step_of}
+use Rattle.follower.specs.Follow.{step_seen, seen_of, step_of}
 use Rattle.frame_follower.proofs.step.Statement.{statement}
 use Rattle.frame_follower.proofs.step.Tie as tie
 
@@ -20,7 +20,7 @@ returns c =
     let read = c.before.before in
     let s = read.before.before.args in
     c.follow.ensures
-    ∙ ap (stepSeen s.state) (c.before.seen_of.ensures ∙ ap (seenOf s.edition) read.read.ensures)
+    ∙ ap (step_seen s.state) (c.before.seen_of.ensures ∙ ap (seen_of s.edition) read.read.ensures)
 
 pub step_spec : {M : Type 1} → statement M
 step_spec = tie.close (tie.spec read-requires seen-of-requires follow-requires returns)

@@ -3,7 +3,7 @@ use mathlib.Core.Path.{◌≡◌}
 use Prim.Native.Nat.{ℕ}
 use borrow.Author.Rules.{rules}
 use borrow.Author.Tests.{eq-eqb, ne_eqb}
-use Rattle.frame.specs.Body.{bodyOf}
+use Rattle.frame.specs.Body.{body_of}
 use Rattle.frame.specs.declared.Class.{Class}
 use Rattle.frame.specs.declared.Class.TheVariants.{Warning}
 use Rattle.frame.specs.declared.Body.TheVariants.{AreaPage, PlacePage, CancelPage}
@@ -12,13 +12,13 @@ use Rattle.frame_kinds.proofs.body_of.Tie as tie
 
 -- a warning's body, by its page and kind
 module _ (c : Class) (page kind : ℕ) (warning : c ≡ Warning) where
-  areas : (page ≡ 1 → ⊥) → AreaPage ≡ bodyOf c page kind
+  areas : (page ≡ 1 → ⊥) → AreaPage ≡ body_of c page kind
   areas p = rw (warning, ne_eqb page 1 p)
 
-  cancelled : page ≡ 1 → kind ≡ 1 → CancelPage ≡ bodyOf c page kind
+  cancelled : page ≡ 1 → kind ≡ 1 → CancelPage ≡ body_of c page kind
   cancelled p k = rw (warning, eq-eqb page 1 p, eq-eqb kind 1 k)
 
-  placed : page ≡ 1 → (kind ≡ 1 → ⊥) → PlacePage ≡ bodyOf c page kind
+  placed : page ≡ 1 → (kind ≡ 1 → ⊥) → PlacePage ≡ body_of c page kind
   placed p k = rw (warning, eq-eqb page 1 p, ne_eqb kind 1 k)
 
 enum_told : tie.Need-enum-told

@@ -3,30 +3,30 @@ use mathlib.Core.Path.{◌≡◌, ◌∙◌}
 use Prim.Native.Nat.{ℕ}
 use borrow.Author.Rules.{rules}
 use borrow.Author.Tests.{ne_eqb}
-use Rattle.frame.specs.Identification.{schedule1, classOf}
+use Rattle.frame.specs.Identification.{schedule1, class_of}
 use Rattle.frame.specs.declared.Edition.{Edition}
 use Rattle.frame.specs.declared.Edition.TheVariants.{First, AreaSafety}
 use Rattle.frame.specs.declared.Class.TheVariants.{SafetyInformation}
 use Rattle.frame_kinds.proofs.class_of.Statement.{statement}
 use Rattle.frame_kinds.proofs.class_of.Tie as tie
 
-first : {ed : Edition} (i : ℕ) → ed ≡ First → schedule1 i ≡ classOf ed i
-unfolding classOf
+first : {ed : Edition} (i : ℕ) → ed ≡ First → schedule1 i ≡ class_of ed i
+unfolding class_of
 first i e = rw e
 
 -- the area safety edition
 module _ {ed : Edition} (i : ℕ) (edition : ed ≡ AreaSafety) where
-  information : i ≡ 5 → SafetyInformation ≡ classOf ed i
-  unfolding classOf
+  information : i ≡ 5 → SafetyInformation ≡ class_of ed i
+  unfolding class_of
   information five = rw (edition, five)
 
   module _ (other : i ≡ 5 → ⊥) where
-    its-test : i ≡ 6 → SafetyInformation ≡ classOf ed i
-    unfolding classOf
+    its-test : i ≡ 6 → SafetyInformation ≡ class_of ed i
+    unfolding class_of
     its-test six = rw (edition, six)
 
-    elsewhere : (i ≡ 6 → ⊥) → schedule1 i ≡ classOf ed i
-    unfolding classOf
+    elsewhere : (i ≡ 6 → ⊥) → schedule1 i ≡ class_of ed i
+    unfolding class_of
     elsewhere neither = rw (edition, ne_eqb i 5 other, ne_eqb i 6 neither)
 
 enum_told : tie.Need-enum-told

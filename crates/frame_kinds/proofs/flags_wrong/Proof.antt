@@ -5,7 +5,7 @@ use Prim.Native.Nat.{ℕ}
 use lib.Dec.{eqb}
 use borrow.Author.Tests.{eq-eqb, ne_eqb}
 use borrow.Author.Rules.{rules}
-use Rattle.frame.specs.Identification.{flagsWrong}
+use Rattle.frame.specs.Identification.{flags_wrong}
 use Rattle.frame.specs.declared.Class.{Class}
 use Rattle.frame.specs.declared.Class.TheVariants.{Silent}
 use Rattle.frame_kinds.proofs.flags_wrong.Statement.{statement}
@@ -18,14 +18,14 @@ free false u = refl
 
 module _ {k : Class} (c : Class) (s u : ℕ) (e : c ≡ k) where
   -- 00 is asked, and any update will do
-  own : (t : Bool) → flagsWrong k s u ≡ not (t && eqb u u) → not t ≡ flagsWrong c s u
-  own t h = free t u ∙ sym h ∙ ap (λ (x : Class). flagsWrong x s u) (sym e)
+  own : (t : Bool) → flags_wrong k s u ≡ not (t && eqb u u) → not t ≡ flags_wrong c s u
+  own t h = free t u ∙ sym h ∙ ap (λ (x : Class). flags_wrong x s u) (sym e)
 
 module _ (c : Class) (s u : ℕ) where
-  silent-wrong : c ≡ Silent → (s ≡ 3 → ⊥) → true ≡ flagsWrong c s u
+  silent-wrong : c ≡ Silent → (s ≡ 3 → ⊥) → true ≡ flags_wrong c s u
   silent-wrong e h = rw (e, ne_eqb s 3 h)
 
-  silent : c ≡ Silent → s ≡ 3 → not (eqb u 3) ≡ flagsWrong c s u
+  silent : c ≡ Silent → s ≡ 3 → not (eqb u 3) ≡ flags_wrong c s u
   silent e h = rw (e, eq-eqb s 3 h)
 
 enum_told : tie.Need-enum-told

@@ -1,7 +1,7 @@
 -- `frame_kinds::is_undefined` meets its contract. `search` finds this too; the file is here so that another value is refused by the two that differ. Assumes nothing.
 use mathlib.Core.Path.{sym, ap}
 use borrow.Author.Rules.{rules}
-use Rattle.frame.specs.Identification.{isUndefined}
+use Rattle.frame.specs.Identification.{is_undefined}
 use Rattle.frame_kinds.proofs.is_undefined.Statement.{statement}
 use Rattle.frame_kinds.proofs.is_undefined.Tie as tie
 
@@ -9,25 +9,25 @@ enum_told : tie.Need-enum-told
 enum_told c = search rules
 
 returns : tie.Need-returns
-returns c = ap isUndefined (sym c.enum_told.given.1)
+returns c = ap is_undefined (sym c.enum_told.given.1)
 
 enum-told-2 : tie.Need-enum-told-2
 enum-told-2 c = search rules
 
 returns-2 : tie.Need-returns-2
-returns-2 c = ap isUndefined (sym c.enum-told2.given.1)
+returns-2 c = ap is_undefined (sym c.enum-told2.given.1)
 
 enum-told-3 : tie.Need-enum-told-3
 enum-told-3 c = search rules
 
 returns-3 : tie.Need-returns-3
-returns-3 c = ap isUndefined (sym c.enum-told3.given.1)
+returns-3 c = ap is_undefined (sym c.enum-told3.given.1)
 
 enum-told-4 : tie.Need-enum-told-4
 enum-told-4 c = search rules
 
 returns-4 : tie.Need-returns-4
-returns-4 c = ap isUndefined (sym c.enum-told4.given.1)
+returns-4 c = ap is_undefined (sym c.enum-told4.given.1)
 
 pub is-undefined-spec : {M : Type 1} → statement M
 is-undefined-spec = tie.close (tie.spec enum_told enum-told-2 enum-told-3 enum-told-4 returns returns-2 returns-3 returns-4)

@@ -5,22 +5,22 @@ use Prim.Native.Nat.{ℕ, ◌≤◌, ◌<◌}
 use lib.Dec.{ltb}
 use borrow.Author.Tests.{lt-ltb, le-ltb}
 use borrow.Author.Rules.{rules}
-use Rattle.frame.specs.Fields.{overLimit}
+use Rattle.frame.specs.Fields.{over_limit}
 use Rattle.frame.specs.declared.Body.{Body}
 use Rattle.frame.specs.declared.Body.TheVariants.{PlacePage}
 use Rattle.frame_kinds.proofs.over_limit.Statement.{statement}
 use Rattle.frame_kinds.proofs.over_limit.Tie as tie
 
 module _ (b : Body) (latitude longitude : ℕ) (place : b ≡ PlacePage) where
-  beyond : 900 < latitude → true ≡ overLimit b latitude longitude
+  beyond : 900 < latitude → true ≡ over_limit b latitude longitude
   beyond h = rw (place, lt-ltb 900 latitude h)
 
-  inside : latitude ≤ 900 → ltb 1800 longitude ≡ overLimit b latitude longitude
+  inside : latitude ≤ 900 → ltb 1800 longitude ≡ over_limit b latitude longitude
   inside h = rw (place, le-ltb 900 latitude h)
 
 -- by the body that was found; said so, so that a limit on a body that has none is refused by the value that differs
-unlimited : {b k : Body} (latitude longitude : ℕ) → b ≡ k → overLimit k latitude longitude ≡ overLimit b latitude longitude
-unlimited latitude longitude e = ap (λ (y : Body). overLimit y latitude longitude) (sym e)
+unlimited : {b k : Body} (latitude longitude : ℕ) → b ≡ k → over_limit k latitude longitude ≡ over_limit b latitude longitude
+unlimited latitude longitude e = ap (λ (y : Body). over_limit y latitude longitude) (sym e)
 
 enum_told : tie.Need-enum-told
 enum_told c = search rules

@@ -4,15 +4,15 @@ use Prim.Native.Nat.{◌≤◌, ◌-◌}
 use native.Mathlib.Omega.{arith}
 use lib.ListN.{length}
 use borrow.Author.Rules.{rules}
-use Rattle.frame.specs.Fields.{fieldCount}
+use Rattle.frame.specs.Fields.{field_count}
 use Rattle.frame_text.proofs.record.Statement.{statement}
 use Rattle.frame_text.proofs.record.Tie as tie
 
 abbrev invariant-loop : tie.invariant-loop
-invariant-loop v k₀ k = (k ≤ fieldCount) × (length v ≡ fieldCount)
+invariant-loop v k₀ k = (k ≤ field_count) × (length v ≡ field_count)
 
 abbrev decreases-loop : tie.decreases-loop
-decreases-loop v k₀ k = fieldCount - k
+decreases-loop v k₀ k = field_count - k
 
 fields-of-requires : tie.Need-fields-of-requires invariant-loop decreases-loop
 fields-of-requires c κs = search rules

@@ -3,10 +3,10 @@ use mathlib.Core.Path.{◌∙◌, ap}
 use mathlib.Core.List.{◌++◌}
 use lib.ListN.{drop}
 use Rattle.bits.specs.Bits.{bits}
-use Rattle.bits.specs.Segment.{packSegments}
+use Rattle.bits.specs.Segment.{pack_segments}
 use Rattle.frame.specs.Body.{layout}
-use Rattle.frame.specs.Fields.{bodyValues}
-use Rattle.frame_writer.specs.WriterParts.{detailBits}
+use Rattle.frame.specs.Fields.{body_values}
+use Rattle.frame_writer.specs.WriterParts.{detail_bits}
 use borrow.Author.Rules.{rules}
 use Rattle.frame_writer.proofs.write_details.Statement.{statement}
 use Rattle.frame_writer.proofs.write_details.Tie as tie
@@ -21,12 +21,12 @@ same_length : tie.Need-same-length
 same_length c = search rules
 
 returns : tie.Need-returns
-unfolding detailBits
+unfolding detail_bits
 returns c =
     let w = c.before.before.write-details in
     let b = c.before.before.before.before.record-body in
     let s = c.before.before.before.before.before.before.args in
-    w.ensures ∙ ap (λ y. packSegments (layout y) (bodyValues y s.contents) ++ drop 88 (bits s.part.now)) b.ensures
+    w.ensures ∙ ap (λ y. pack_segments (layout y) (body_values y s.contents) ++ drop 88 (bits s.part.now)) b.ensures
 
 pub write-details-spec : {M : Type 1} → statement M
 write-details-spec =

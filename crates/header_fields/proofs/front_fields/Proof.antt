@@ -4,7 +4,7 @@ use mathlib.Core.List.{append_assoc}
 use native.Mathlib.Omega.{arith}
 use lib.ListN.{length, length-set}
 use Rattle.header.specs.declared.Front.{Front}
-use Rattle.header.specs.Fields.{frontFields}
+use Rattle.header.specs.Fields.{front_fields}
 use Rattle.header_arrays.proofs.Copies.{filled_none, filled-one, filled_row, filled-pairs, filled-all}
 use borrow.Author.Rules.{rules}
 use Rattle.header_fields.proofs.front_fields.Statement.{statement}
@@ -93,7 +93,7 @@ put-values-requires-3 c κs =
     simp length-set (omega (arith, n))
 
 returns : tie.Need-returns
-unfolding frontFields
+unfolding front_fields
 returns c =
     let b₄ = c.before in
     let b₃ = b₄.before.before.before.before.before in

@@ -1,12 +1,12 @@
 -- `header_fields::front_of` meets its contract. Assumes nothing.
 use lib.ListN.{get_or}
 use borrow.Author.Rules.{rules}
-use Rattle.header.specs.Fields.{frontOf}
+use Rattle.header.specs.Fields.{front_of}
 use Rattle.header_fields.proofs.front_of.Statement.{statement}
 use Rattle.header_fields.proofs.front_of.Tie as tie
 
 returns : tie.Need-returns
-unfolding frontOf
+unfolding front_of
 returns c =
     let slots = c.before.before.before.before.before.before.before in
     let states = slots.before.before in

@@ -7,8 +7,8 @@ use lib.ListN.{length, take, drop}
 use borrow.Author.Rules.{rules}
 use Rattle.bits.specs.Layout.{pack}
 use Rattle.bits.proofs.Slices.{rest-lent}
-use Rattle.header_tables.specs.AcTables.{acWidths}
-use Rattle.header_inserter.specs.AcBits.{withFirst}
+use Rattle.header_tables.specs.AcTables.{ac_widths}
+use Rattle.header_inserter.specs.AcBits.{with_first}
 use Rattle.header_inserter.proofs.AcValues.{header-written}
 use Rattle.header_inserter.proofs.put_into.Statement.{statement}
 use Rattle.header_inserter.proofs.put_into.Tie as tie
@@ -38,8 +38,8 @@ returns c =
     let seal = c.before.before.seal in
     let h = b.args.header.now in
     let v = take 99 h ++ (put.new.0 ++ drop (length h - 99) (drop 99 h)) in
-    let e = rest-lent (withFirst (pack acWidths b.args.values.now)) h v put.new.0 99 put.ensures refl in
-    header-written h v seal.new.0 (pack acWidths b.args.values.now) b.requires e seal.ensures
+    let e = rest-lent (with_first (pack ac_widths b.args.values.now)) h v put.new.0 99 put.ensures refl in
+    header-written h v seal.new.0 (pack ac_widths b.args.values.now) b.requires e seal.ensures
 
 pub put-into-spec : {M : Type 1} → statement M
 put-into-spec =

@@ -1,6 +1,6 @@
 -- `header_reader::no_header` meets its contract. Assumes nothing.
 use mathlib.Core.Path.{◌∙◌, ap}
-use Rattle.header.specs.Fields.{frontOf, extensionOf}
+use Rattle.header.specs.Fields.{front_of, extension_of}
 use Rattle.header.specs.Header.{no_header}
 use Rattle.header_reader.proofs.Zeros.{front-zeros, extension-zeros}
 use borrow.Author.Rules.{rules}
@@ -23,8 +23,8 @@ returns : tie.Need-returns
 unfolding no_header
 returns c =
     let f = c.before.before.before in
-    let e = c.extension-of.ensures ∙ ap extensionOf c.before.before.zeros26.ensures ∙ extension-zeros in
-    let g = f.front_of.ensures ∙ ap frontOf f.before.before.zeros119.ensures ∙ front-zeros in
+    let e = c.extension-of.ensures ∙ ap extension_of c.before.before.zeros26.ensures ∙ extension-zeros in
+    let g = f.front_of.ensures ∙ ap front_of f.before.before.zeros119.ensures ∙ front-zeros in
     λ i. record { front = g i; extension = e i }
 
 pub no-header-spec : {M : Type 1} → statement M

@@ -2,8 +2,8 @@
 use mathlib.Core.Path.{◌≡◌}
 use native.Mathlib.Omega.{arith}
 use lib.ListN.{length}
-use Rattle.header.specs.Fields.{extensionFields}
-use Rattle.header.specs.Layout.{extensionLayout}
+use Rattle.header.specs.Fields.{extension_fields}
+use Rattle.header.specs.Layout.{extension_layout}
 use Rattle.header_tables.proofs.Rows.{extension-row}
 use Rattle.header_writer.proofs.FieldsWritten.{write-room, written}
 use borrow.Author.Rules.{rules}
@@ -32,20 +32,20 @@ write-fields-requires c κs =
     let k = c.before.before.before.before.before.extension-kinds in
     let vs = c.before.before.before.before.before.before.before.before.args.extension.ac in
     let l : length vs ≡ 26 = search rules in
-    write-room extensionLayout k.result w.result k.ensures w.ensures 85 26 (length b.args.part.now) vs extension-row (omega (arith, b.requires)) l (omega arith)
+    write-room extension_layout k.result w.result k.ensures w.ensures 85 26 (length b.args.part.now) vs extension-row (omega (arith, b.requires)) l (omega arith)
 
 same_length : tie.Need-same-length
 same_length c = search rules
 
 returns : tie.Need-returns
-unfolding extensionFields
+unfolding extension_fields
 returns c =
     let f = c.before.before.write-fields in
     let w = c.before.before.before.before.before.before.before.extension-widths in
     let k = c.before.before.before.before.before.before.before.before.extension-kinds in
     let b = c.before.before.before.before.before.before.before.before.before.before.before in
     let s = b.args.part.now in
-    written extensionLayout k.result w.result k.ensures w.ensures 85 26 b.args.extension.ac s f.new.0 extension-row (omega (arith, b.requires)) f.auto.0
+    written extension_layout k.result w.result k.ensures w.ensures 85 26 b.args.extension.ac s f.new.0 extension-row (omega (arith, b.requires)) f.auto.0
     (λ i. (c.before.before.before.before.before.before.before.before.before.before.slice-known.given i).fits) (λ i. (c.slice-known2.given i).fits) f.ensures
 
 pub put-extension-spec : {M : Type 1} → statement M

@@ -4,8 +4,8 @@ use mathlib.Core.List.{◌++◌}
 use native.Mathlib.Omega.{arith}
 use lib.ListN.{length, drop}
 use Rattle.bits.specs.Bits.{bytes}
-use Rattle.bits.specs.Segment.{packSegments}
-use Rattle.header.specs.Layout.{frontLayout}
+use Rattle.bits.specs.Segment.{pack_segments}
+use Rattle.header.specs.Layout.{front_layout}
 use Rattle.header_tables.proofs.Rows.{front-row}
 use Rattle.header_writer.proofs.FieldsWritten.{write-room, written}
 use borrow.Author.Rules.{rules}
@@ -37,7 +37,7 @@ write-fields-requires c κs =
     let k = c.before.before.before.before.before.front-kinds in
     let vs = c.before.before.before.before.before.before.front-fields.result in
     let l : length vs ≡ 119 = search rules in
-    write-room frontLayout k.result w.result k.ensures w.ensures 99 119 (length b.args.buffer.now) vs front-row (omega (arith, b.requires)) l (omega arith)
+    write-room front_layout k.result w.result k.ensures w.ensures 99 119 (length b.args.buffer.now) vs front-row (omega (arith, b.requires)) l (omega arith)
 
 same_length : tie.Need-same-length
 same_length c = search rules
@@ -50,9 +50,9 @@ returns c =
     let fields = c.before.before.before.before.before.before.before.before.before.front-fields in
     let b = c.before.before.before.before.before.before.before.before.before.before.before in
     let s = b.args.buffer.now in
-    written frontLayout k.result w.result k.ensures w.ensures 99 119 fields.result s f.new.0 front-row (omega (arith, b.requires)) f.auto.0
+    written front_layout k.result w.result k.ensures w.ensures 99 119 fields.result s f.new.0 front-row (omega (arith, b.requires)) f.auto.0
     (λ i. (c.before.before.before.before.before.before.before.before.before.before.slice-known.given i).fits) (λ i. (c.slice-known2.given i).fits) f.ensures
-    ∙ ap (λ v. bytes 99 (packSegments frontLayout v) ++ drop 99 s) fields.ensures
+    ∙ ap (λ v. bytes 99 (pack_segments front_layout v) ++ drop 99 s) fields.ensures
 
 pub put-front-spec : {M : Type 1} → statement M
 put-front-spec =

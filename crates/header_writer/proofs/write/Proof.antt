@@ -5,10 +5,10 @@ use Prim.Native.Nat.{◌-◌}
 use native.Mathlib.Omega.{arith}
 use lib.ListN.{length, take, drop}
 use Rattle.bits.specs.Bits.{bytes}
-use Rattle.bits.specs.Segment.{packSegments}
+use Rattle.bits.specs.Segment.{pack_segments}
 use Rattle.bits.proofs.Slices.{rest-lent}
-use Rattle.header.specs.Layout.{extensionLayout}
-use Rattle.header.specs.Fields.{extensionFields}
+use Rattle.header.specs.Layout.{extension_layout}
+use Rattle.header.specs.Fields.{extension_fields}
 use Rattle.header_writer.proofs.Writing.{short-number, record-number, buffer-kept, buffer-written, header-written}
 use borrow.Author.Rules.{rules}
 use Rattle.header_writer.proofs.write.Statement.{statement}
@@ -65,7 +65,7 @@ returns-3 c =
     let seal = c.before.before.seal in
     let v₁ = front.new.0 in
     let v₂ = take 99 v₁ ++ (extension.new.0 ++ drop (length v₁ - 99) (drop 99 v₁)) in
-    let q = bytes 85 (packSegments extensionLayout (extensionFields a.header.extension)) in
+    let q = bytes 85 (pack_segments extension_layout (extension_fields a.header.extension)) in
     let e = rest-lent (λ x. q ++ drop 85 x) v₁ v₂ extension.new.0 99 extension.ensures refl in
     (sym z ∙ n, buffer-written a.header s seal.new.0 r.result n z (header-written a.header s v₁ v₂ seal.new.0 front.ensures e seal.ensures))
 

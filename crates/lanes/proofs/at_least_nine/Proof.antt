@@ -2,7 +2,7 @@
 use mathlib.Core.List.{[], ◌∷◌}
 use native.Mathlib.Omega.{arith}
 use borrow.Author.Rules.{rules}
-use Rattle.lanes.specs.Lane.{setIn}
+use Rattle.lanes.specs.Lane.{set_in}
 use Rattle.lanes.proofs.Adders.{lane-nine}
 use Rattle.lanes.proofs.at_least_nine.Statement.{statement}
 use Rattle.lanes.proofs.at_least_nine.Tie as tie
@@ -86,7 +86,7 @@ returns c i =
     let eights = p15.half-adder3 in
     let x = p1.before.args in
     let xs = x.x0 ∷ x.x1 ∷ x.x2 ∷ x.x3 ∷ x.x4 ∷ x.x5 ∷ x.x6 ∷ x.x7 ∷ x.x8 ∷ x.x9 ∷ x.x10 ∷ x.x11 ∷ x.x12 ∷ x.x13 ∷ x.x14 ∷ x.x15 ∷ x.x16 ∷ [] in
-    lane-nine ones.result.sum twos.result.sum fours.result.sum eights.result.sum eights.result.carry i (setIn i xs)
+    lane-nine ones.result.sum twos.result.sum fours.result.sum eights.result.sum eights.result.carry i (set_in i xs)
     (omega (arith, a.ensures i, b.ensures i, c.ensures i, d.ensures i, e.ensures i, f.ensures i, g.ensures i, ones.ensures i, h.ensures i, k.ensures i, l.ensures i, twos.ensures i, m.ensures i, fours.ensures i, eights.ensures i))
 
 pub at-least-nine-spec : {M : Type 1} → statement M

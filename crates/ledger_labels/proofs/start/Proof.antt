@@ -3,7 +3,7 @@ use mathlib.Core.Path.{refl}
 use mathlib.Core.List.{flatten}
 use borrow.Author.Rules.{rules}
 use Rattle.ledger.specs.Report.{labels}
-use Rattle.ledger_labels.specs.Labels.{labelStart}
+use Rattle.ledger_labels.specs.Labels.{label_start}
 use Rattle.ledger_labels.proofs.Parts.{start-in}
 use Rattle.ledger_labels.proofs.start.Statement.{statement}
 use Rattle.ledger_labels.proofs.start.Tie as tie
@@ -15,7 +15,7 @@ array-read-result : tie.Need-array-read-result
 array-read-result c = search rules
 
 returns : tie.Need-returns
-unfolding labelStart labels flatten
+unfolding label_start labels flatten
 returns c = start-in _ refl c.args.i c.requires
 
 pub start_spec : {M : Type 1} → statement M

@@ -2,12 +2,12 @@
 use mathlib.Core.Path.{refl}
 use mathlib.Core.List.{flatten}
 use Rattle.ledger.specs.Report.{labels}
-use Rattle.ledger_labels.specs.Labels.{labelText}
+use Rattle.ledger_labels.specs.Labels.{label_text}
 use Rattle.ledger_labels.proofs.text.Statement.{statement}
 use Rattle.ledger_labels.proofs.text.Tie as tie
 
 returns : tie.Need-returns
-unfolding labelText labels flatten
+unfolding label_text labels flatten
 returns c = refl
 
 pub text-spec : {M : Type 1} → statement M

@@ -7,7 +7,7 @@ use native.Mathlib.Omega.{arith}
 use lib.ListN.{length, get_or, take, drop, get_or-eq_default}
 use borrow.Author.Rules.{rules}
 use borrow.Author.Tests.{eqb-true, eqb-false, not-true, not-false}
-use Rattle.decimals.specs.Reading.{startsWith, decimalAt}
+use Rattle.decimals.specs.Reading.{starts_with, decimal_at}
 use Rattle.decimals.specs.declared.Found.TheVariants.{Number}
 use Rattle.decimals.proofs.Readings.{starts-inside}
 use Rattle.ledger_parser.proofs.Parsed.{line-other-label, line-no-number, number-inside, line-found, line-no-feed}
@@ -15,13 +15,13 @@ use Rattle.ledger_parser.proofs.read_labelled.Statement.{statement}
 use Rattle.ledger_parser.proofs.read_labelled.Tie as tie
 
 -- the text begins with the label
-starts : (c : tie.Else1) → startsWith c.before.before.before.before.args.label.now c.before.before.before.before.args.text.now ≡ true
+starts : (c : tie.Else1) → starts_with c.before.before.before.before.args.label.now c.before.before.before.before.args.text.now ≡ true
 starts c = sym c.before.starts_with.ensures ∙ not-false _ c.if1.false
 
 -- and then a number stands
 number : (c : tie.After-known-told)
     → Number c.before.found.given.0.0 c.before.found.given.0.1.0
-    ≡ decimalAt
+    ≡ decimal_at
     (take
     (length c.before.before.before.before.before.before.before.before.before.args.text.now - length c.before.before.before.before.before.before.before.before.before.args.label.now)
     (drop (length c.before.before.before.before.before.before.before.before.before.args.label.now) c.before.before.before.before.before.before.before.before.before.args.text.now))

@@ -5,7 +5,7 @@ use Prim.Native.Nat.{ℕ}
 use lib.ListN.{length}
 use borrow.Author.Rules.{rules}
 use borrow.Author.Tests.{not-true, not-false}
-use Rattle.ledger.specs.Report.{labels, labelledLines, ledgerReport}
+use Rattle.ledger.specs.Report.{labels, labelled_lines, ledger_report}
 use Rattle.ledger.proofs.Reports.{length-impossible, length-possible}
 use Rattle.ledger_printer.proofs.report_length.Statement.{statement}
 use Rattle.ledger_printer.proofs.report_length.Tie as tie
@@ -29,13 +29,13 @@ lines-length-requires : tie.Need-lines-length-requires
 lines-length-requires c κs = search rules
 
 returns-2 : tie.Need-returns-2
-unfolding ledgerReport
+unfolding ledger_report
 returns-2 c =
     let numbers = c.before.before in
     let tested = numbers.before in
     let asked = tested.before in
     let e = length-possible asked.before.args.ledger (sym asked.possible.ensures ∙ not-false _ tested.if1.false) in
-    let size = c.lines-length.ensures ∙ ap (λ (ns : List ℕ). length (labelledLines labels ns)) numbers.Numbers-of.ensures ∙ sym e.1 in
+    let size = c.lines-length.ensures ∙ ap (λ (ns : List ℕ). length (labelled_lines labels ns)) numbers.Numbers-of.ensures ∙ sym e.1 in
     λ i. record { number = sym e.0 i; bytes = size i }
 
 pub report-length-spec : {M : Type 1} → statement M

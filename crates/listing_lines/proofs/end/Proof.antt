@@ -3,7 +3,7 @@ use mathlib.Core.List.{[], ◌∷◌}
 use native.Mathlib.Omega.{arith}
 use borrow.Author.Rules.{rules}
 use Rattle.decimals.specs.Decimal.{decimal}
-use Rattle.listing.specs.Lines.{endLine, endCount, end_of}
+use Rattle.listing.specs.Lines.{end_line, end_count, end_of}
 use Rattle.decimals.proofs.Decimals.{length-word}
 use Rattle.listing.proofs.LineLengths.{length-end}
 use Rattle.decimals.proofs.Stores.{put_then, answered-none, answered-text}
@@ -11,8 +11,8 @@ use Rattle.listing_lines.proofs.end.Statement.{statement}
 use Rattle.listing_lines.proofs.end.Tie as tie
 
 returns : tie.Need-returns
-unfolding endCount end_of
-returns c = let a = c.before.before.args in answered-none 32 (endLine a.count) a.out.now (omega arith)
+unfolding end_count end_of
+returns c = let a = c.before.before.args in answered-none 32 (end_line a.count) a.out.now (omega arith)
 
 put-byte-requires : tie.Need-put-byte-requires
 put-byte-requires c κs = search rules
@@ -36,7 +36,7 @@ same_length : tie.Need-same-length
 same_length c = search rules
 
 returns-2 : tie.Need-returns-2
-unfolding endCount end_of endLine
+unfolding end_count end_of end_line
 returns-2 c =
     let last = c.before.before in
     let number = last.before.before.before.before in
@@ -46,7 +46,7 @@ returns-2 c =
     let letter-e = letter-n.before.before.before.before in
     let tested = letter-e.before.before in
     let a = tested.before.before.args in
-    answered-text 32 (endLine a.count) a.out.now _ _ (omega arith) (omega (arith, length-end a.count (omega arith)))
+    answered-text 32 (end_line a.count) a.out.now _ _ (omega arith) (omega (arith, length-end a.count (omega arith)))
     (put_then (101 ∷ []) _ letter-e.put_byte.ensures
     (put_then (110 ∷ []) _ letter-n.put-byte2.ensures
     (put_then (100 ∷ []) _ letter-d.put-byte3.ensures

@@ -3,7 +3,7 @@ use mathlib.Core.List.{[], ◌∷◌}
 use native.Mathlib.Omega.{arith}
 use borrow.Author.Rules.{rules}
 use Rattle.decimals.specs.Decimal.{decimal}
-use Rattle.listing.specs.Lines.{placesText, line_of}
+use Rattle.listing.specs.Lines.{places_text, line_of}
 use Rattle.listing.proofs.LineLengths.{length-places}
 use Rattle.decimals.proofs.Decimals.{length-word, length-byte}
 use Rattle.decimals.proofs.Stores.{put_then}
@@ -48,7 +48,7 @@ returns c =
     (put_then (32 ∷ []) _ space₁.put_byte.ensures
     (put_then (decimal a.verdict.number) _ number.put-decimal2.ensures
     (put_then (32 ∷ []) _ space₂.put-byte2.ensures
-    (put_then (placesText a.verdict) _ places.put-places.ensures last.put-byte3.ensures))))
+    (put_then (places_text a.verdict) _ places.put-places.ensures last.put-byte3.ensures))))
 
 pub put-line-spec : {M : Type 1} → statement M
 put-line-spec =

@@ -5,7 +5,7 @@ use native.Mathlib.Omega.{arith}
 use lib.ListN.{length}
 use borrow.Author.Tests.{not-true, not-false}
 use borrow.Author.Rules.{rules}
-use Rattle.listing.specs.Lines.{listCount}
+use Rattle.listing.specs.Lines.{list_count}
 use Rattle.listing.proofs.LineLengths.{list-within, end-within}
 use Rattle.listing_turns.proofs.Room.{fits-true}
 use Rattle.listing_pieces.proofs.Cases.{turn-refused, turn_more, turn_last}
@@ -46,7 +46,7 @@ returns-2 c =
     let listed = c.before.before.before.before in
     let tested = listed.before.before in
     let a = tested.before.before.before.before.before.args in
-    let told : listed.list.result ≡ listCount a.edition a.pieces a.part.now (a.listed + 1) (length a.out.now) = listed.list.ensures.0 in
+    let told : listed.list.result ≡ list_count a.edition a.pieces a.part.now (a.listed + 1) (length a.out.now) = listed.list.ensures.0 in
     turn_more _ _ _ _ _ _ _ _ _ tested.before.before.piece-count.ensures (sym tested.before.fits2.ensures ∙ not-false _ tested.if1.false) told
     listed.list.ensures.1 c.before.wanted-after.ensures c.if2.true
 

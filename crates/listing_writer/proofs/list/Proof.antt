@@ -3,7 +3,7 @@ use Prim.Native.Nat.{◌-◌, ◌*◌}
 use native.Mathlib.Omega.{arith}
 use lib.ListN.{length}
 use borrow.Author.Rules.{rules}
-use Rattle.listing.specs.Lines.{pieceCount, lines, listCount, list_of}
+use Rattle.listing.specs.Lines.{piece_count, lines, list_count, list_of}
 use Rattle.listing.proofs.Counts.{size-least}
 use Rattle.listing.proofs.LineLengths.{length-line}
 use Rattle.decimals.proofs.Stores.{answered-none, answered-text}
@@ -21,10 +21,10 @@ piece-count-requires : tie.Need-piece-count-requires invariant-loop decreases-lo
 piece-count-requires c κs = search rules
 
 returns : tie.Need-returns invariant-loop decreases-loop
-unfolding listCount list_of
+unfolding list_count list_of
 returns c =
     let a = c.before.before.before.before.args in
-    let n = pieceCount a.pieces (length a.input.now) in
+    let n = piece_count a.pieces (length a.input.now) in
     answered-none (32 * n) (lines a.edition a.pieces n a.first a.input.now) a.out.now (omega arith)
 
 loop-holds : tie.Need-loop-init invariant-loop decreases-loop
@@ -69,10 +69,10 @@ same_length : tie.Need-same-length invariant-loop decreases-loop
 same_length c = listed-length c.before.loop.invariant
 
 returns-2 : tie.Need-returns-2 invariant-loop decreases-loop
-unfolding listCount list_of
+unfolding list_count list_of
 returns-2 c =
     let a = c.before.before.before.before.before.before.args in
-    let n = pieceCount a.pieces (length a.input.now) in
+    let n = piece_count a.pieces (length a.input.now) in
     let r = listed-all c.before.loop.invariant c.loop-test.false in
     answered-text (32 * n) (lines a.edition a.pieces n a.first a.input.now) a.out.now _ _ (omega arith) r.1 r.0
 

@@ -7,7 +7,7 @@ use lib.ListN.{length, get_or, take, drop}
 use Rattle.bits.specs.Bits.{bits}
 use Rattle.bits.specs.Field.{field_at}
 use Rattle.bits.specs.Layout.{sum}
-use Rattle.bits.specs.Segment.{segments, segment, holds, unpackSegments, fixedBitsHold}
+use Rattle.bits.specs.Segment.{segments, segment, holds, unpack_segments, fixed_bits_hold}
 use Rattle.bits.proofs.Field.{within-room}
 use Rattle.bits.proofs.Layouts.{sum-take, sum-next}
 use Rattle.segments.specs.Step.{stored}
@@ -18,8 +18,8 @@ use Rattle.segments.proofs.read_fields.Tie as tie
 abbrev invariant-loop : tie.invariant-loop
 invariant-loop s kinds ws out₀ at₀ i₀ j₀ fixed₀ out at i j fixed =
     (j ≤ length ws) × (at ≡ sum (take j ws)) × (length out ≡ length out₀)
-    × ReadSoFar (unpackSegments (segments kinds ws) (bits s)) i out (drop j (segments kinds ws)) (drop at (bits s))
-    × (fixedBitsHold (segments kinds ws) (bits s) ≡ (fixed && fixedBitsHold (drop j (segments kinds ws)) (drop at (bits s))))
+    × ReadSoFar (unpack_segments (segments kinds ws) (bits s)) i out (drop j (segments kinds ws)) (drop at (bits s))
+    × (fixed_bits_hold (segments kinds ws) (bits s) ≡ (fixed && fixed_bits_hold (drop j (segments kinds ws)) (drop at (bits s))))
 
 abbrev decreases-loop : tie.decreases-loop
 decreases-loop s kinds ws out₀ at₀ i₀ j₀ fixed₀ out at i j fixed = length ws - j

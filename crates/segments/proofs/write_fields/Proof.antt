@@ -8,7 +8,7 @@ use lib.ListN.{length, get_or, take, drop}
 use lib.Seq.{take-length}
 use Rattle.bits.specs.Bits.{bits}
 use Rattle.bits.specs.Layout.{sum}
-use Rattle.bits.specs.Segment.{segments, packSegments}
+use Rattle.bits.specs.Segment.{segments, pack_segments}
 use Rattle.bits.proofs.Layouts.{sum-take, sum-next}
 use Rattle.segments.proofs.Turns.{WrittenSoFar, write-room, write-turn, write-end, put-turn}
 use Rattle.segments.proofs.write_fields.Statement.{statement}
@@ -17,7 +17,7 @@ use Rattle.segments.proofs.write_fields.Tie as tie
 abbrev invariant-loop : tie.invariant-loop
 invariant-loop buf₀ kinds ws vs at₀ i₀ j₀ buf at i j =
     (j ≤ length ws) × (at ≡ sum (take j ws)) × (length buf ≡ length buf₀)
-    × WrittenSoFar (packSegments (segments kinds ws) vs) (take at (bits buf)) vs i (drop j (segments kinds ws))
+    × WrittenSoFar (pack_segments (segments kinds ws) vs) (take at (bits buf)) vs i (drop j (segments kinds ws))
     × (bits buf ≡ take at (bits buf) ++ drop at (bits buf₀))
 
 abbrev decreases-loop : tie.decreases-loop

@@ -5,13 +5,13 @@ use borrow.Author.Rules.{rules}
 use lib.Bits.{bit_xor}
 use lib.Count.{ones}
 use Rattle.bits.specs.Bits.{bits_of}
-use Rattle.sync_pattern.specs.Pattern.{patternWord, differingFrom}
+use Rattle.sync_pattern.specs.Pattern.{pattern_word, differing_from}
 use Rattle.sync_pattern.proofs.Patterns.{differing-ones}
 use Rattle.sync_pattern.proofs.differing_from.Statement.{statement}
 use Rattle.sync_pattern.proofs.differing_from.Tie as tie
 
 -- the number n of bits in which they differ, counted of the sum with the pattern's word w
-counted : (p sync w n : ℕ) → w ≡ patternWord p → n ≡ ones (bit_xor sync w % 65536) → n ≡ differingFrom p (bits_of 16 sync)
+counted : (p sync w n : ℕ) → w ≡ pattern_word p → n ≡ ones (bit_xor sync w % 65536) → n ≡ differing_from p (bits_of 16 sync)
 counted p sync w n ew en = en ∙ ap (λ (k : ℕ). ones (bit_xor sync k % 65536)) ew ∙ sym (differing-ones p sync)
 
 pattern-word-requires : tie.Need-pattern-word-requires

@@ -2,14 +2,14 @@
 use mathlib.Core.Path.{◌≡◌}
 use Prim.Native.Nat.{ℕ}
 use borrow.Author.Tests.{eq-eqb, ne_eqb}
-use Rattle.sync_pattern.specs.Pattern.{patternWord}
+use Rattle.sync_pattern.specs.Pattern.{pattern_word}
 use Rattle.sync_pattern.proofs.pattern_word.Statement.{statement}
 use Rattle.sync_pattern.proofs.pattern_word.Tie as tie
 
-zeroth : (p : ℕ) → p ≡ 0 → patternWord 0 ≡ patternWord p
+zeroth : (p : ℕ) → p ≡ 0 → pattern_word 0 ≡ pattern_word p
 zeroth p e = rw (eq-eqb p 0 e)
 
-other : (p : ℕ) → (p ≡ 0 → ⊥) → patternWord 1 ≡ patternWord p
+other : (p : ℕ) → (p ≡ 0 → ⊥) → pattern_word 1 ≡ pattern_word p
 other p n = rw (ne_eqb p 0 n)
 
 returns : tie.Need-returns

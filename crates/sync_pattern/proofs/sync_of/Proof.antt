@@ -5,22 +5,22 @@ use mathlib.Core.List.{List}
 use Prim.Native.Nat.{ℕ, ◌≤◌, ◌<◌}
 use native.Mathlib.Omega.{arith}
 use borrow.Author.Rules.{rules}
-use Rattle.sync_pattern.specs.Pattern.{differingFrom, syncLimit, syncOf}
+use Rattle.sync_pattern.specs.Pattern.{differing_from, sync_limit, sync_of}
 use Rattle.sync_pattern.specs.declared.Sync.TheVariants.{Fits, Neither}
 use Rattle.sync_pattern.proofs.Patterns.{fits-0, fits-1, fits-neither}
 use Rattle.sync_pattern.proofs.sync_of.Statement.{statement}
 use Rattle.sync_pattern.proofs.sync_of.Tie as tie
 
 -- by the numbers m and n of bits that differ from the patterns 0 and 1
-module _ (s : List Bool) (m : ℕ) (em : m ≡ differingFrom 0 s) where
-  near-0 : m ≤ syncLimit → Fits 0 m ≡ syncOf s
+module _ (s : List Bool) (m : ℕ) (em : m ≡ differing_from 0 s) where
+  near-0 : m ≤ sync_limit → Fits 0 m ≡ sync_of s
   near-0 h = ap (Fits 0) em ∙ fits-0 s (omega (arith, em))
 
-  module _ (far : syncLimit < m) (n : ℕ) (en : n ≡ differingFrom 1 s) where
-    near-1 : n ≤ syncLimit → Fits 1 n ≡ syncOf s
+  module _ (far : sync_limit < m) (n : ℕ) (en : n ≡ differing_from 1 s) where
+    near-1 : n ≤ sync_limit → Fits 1 n ≡ sync_of s
     near-1 h = ap (Fits 1) en ∙ fits-1 s (omega (arith, em)) (omega (arith, en))
 
-    near_none : syncLimit < n → Neither ≡ syncOf s
+    near_none : sync_limit < n → Neither ≡ sync_of s
     near_none h = fits-neither s (omega (arith, em)) (omega (arith, en))
 
 differing-from-requires : tie.Need-differing-from-requires

@@ -5,19 +5,19 @@ use mathlib.Core.List.{List, ◌++◌}
 use Prim.Native.Nat.{ℕ, ◌≤◌, ◌-◌}
 use native.Mathlib.Omega.{arith}
 use lib.ListN.{length, drop, set, length-set}
-use Rattle.test_values.specs.Numbers.{numbersOf}
+use Rattle.test_values.specs.Numbers.{numbers_of}
 use Rattle.test_values.proofs.Numbers.{numbers-next}
 use Rattle.test_values.proofs.values.Statement.{statement}
 use Rattle.test_values.proofs.values.Tie as tie
 
 abbrev invariant-loop : tie.invariant-loop
-invariant-loop s out₀ n i₀ out i = (i ≤ n) × (length out ≡ length out₀) × (out ≡ numbersOf i s ++ drop i out₀)
+invariant-loop s out₀ n i₀ out i = (i ≤ n) × (length out ≡ length out₀) × (out ≡ numbers_of i s ++ drop i out₀)
 
 abbrev decreases-loop : tie.decreases-loop
 decreases-loop s out₀ n i₀ out i = n - i
 
 loop-holds : tie.Need-loop-init invariant-loop decreases-loop
-unfolding numbersOf
+unfolding numbers_of
 loop-holds c = (omega arith, refl, refl)
 
 mul-number-at : tie.Need-overflow-mul-number-at invariant-loop decreases-loop
@@ -49,7 +49,7 @@ returns c =
     let l = c.before.loop in
     let n = c.before.before.smaller in
     let e : l.i ≡ n.result = omega arith in
-    (omega (arith, n.ensures, l.invariant.1), (n.ensures, l.invariant.2 ∙ ap (λ (k : ℕ). numbersOf k a.s.now ++ drop k a.out.now) e))
+    (omega (arith, n.ensures, l.invariant.1), (n.ensures, l.invariant.2 ∙ ap (λ (k : ℕ). numbers_of k a.s.now ++ drop k a.out.now) e))
 
 pub values-spec : {M : Type 1} → statement M
 values-spec =

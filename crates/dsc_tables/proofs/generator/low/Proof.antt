@@ -1,12 +1,12 @@
 -- `dsc_tables::generator::low` meets its contract: the powers of the definition give these coefficients. Assumes nothing.
 use mathlib.Core.Path.{refl}
 use Rattle.gf2.specs.Polynomial.{poly, member}
-use Rattle.dsc.specs.Code.{powers, generatorLow}
+use Rattle.dsc.specs.Code.{powers, generator_low}
 use Rattle.dsc_tables.proofs.generator.low.Statement.{statement}
 use Rattle.dsc_tables.proofs.generator.low.Tie as tie
 
 returns : tie.Need-returns
-unfolding generatorLow powers poly member
+unfolding generator_low powers poly member
 returns c = refl
 
 pub low-spec : {M : Type 1} → statement M
