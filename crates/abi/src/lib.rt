@@ -1,4 +1,6 @@
 // What the functions over plain numbers and slices share, as a C program can call them.
+#![tactic(auto)]
+
 ghost use Rattle.std.specs.Prelude.{◌≡◌, length};
 ghost use Rattle.abi.specs.Status.{status_of};
 

@@ -1,5 +1,6 @@
 // The repair asked for alone, over plain numbers and slices, as a C program can call it: by the shipped engine, by the second one,
 // and with doubtful marks.
+#![tactic(auto)]
 ghost use Rattle.std.specs.Prelude.{◌≡◌, length};
 ghost use Rattle.dsc.specs.Marks.{unmarked, marked};
 ghost use Rattle.dsc.specs.Repair.{outcome_number, outcome_places, left_in};

@@ -1,4 +1,6 @@
 // Bits of a row of bytes, most significant first: read and written as fields.
+#![tactic(auto)]
+
 ghost use Rattle.std.specs.Prelude.{◌≡◌, ◌+◌, ◌*◌, ◌≤◌, length};
 ghost use Rattle.bits.specs.Bits.{bits};
 ghost use Rattle.bits.specs.Field.{field_at, put_bits, within, get_of, put_of};

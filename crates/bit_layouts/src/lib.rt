@@ -1,4 +1,6 @@
 // Fields end to end, by a table of their widths: read, written, and tested.
+#![tactic(auto)]
+
 ghost use Rattle.std.specs.Prelude.{◌≡◌, ◌++◌, ◌-◌, ◌^◌, eqb, ltb, length, drop};
 ghost use Rattle.bits.specs.Bits.{bits};
 ghost use Rattle.bits.specs.Layout.{pack, unpack, sum, Layout, fitb};

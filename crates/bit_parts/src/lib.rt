@@ -1,4 +1,6 @@
 // Bits in a byte, most significant first, and bytes as numbers: what fields are read and written by.
+#![tactic(auto)]
+
 ghost use Rattle.std.specs.Prelude.{◌≡◌, false, ◌+◌, ◌*◌, ◌<◌, ◌≤◌, length, get_or};
 ghost use Rattle.bits.specs.Bits.{digit, bits};
 ghost use Rattle.bits.specs.Field.{field_at, put_bits};

@@ -3,6 +3,8 @@
 //
 // A match, not an array: an array is stored on the stack at each call, element by element, and a match of constants is read where the program lies. The
 // highest bit is turned over, since the compiler sorts the keys as signed numbers: so b itself is the place in the table.
+#![tactic(auto)]
+
 ghost use Rattle.std.specs.Prelude.{◌≡◌};
 ghost use Rattle.crc.specs.Crc.{g10, g32};
 ghost use Rattle.crc.specs.Remainders.{remainder_of};

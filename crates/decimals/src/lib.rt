@@ -1,4 +1,6 @@
 // Numbers as text: decimal digits, and single bytes, stored in a buffer, and read. Where text is stored, sizes are required: the callers have room for it.
+#![tactic(auto)]
+
 ghost use Rattle.std.specs.Prelude.{◌≡◌, [], ◌∷◌, ◌+◌, ◌-◌, ◌*◌, ◌≤◌, ◌<◌, ltb, length, drop};
 ghost use Rattle.std.proofs.lemmas.List.Edits.{sets};
 ghost use Rattle.decimals.specs.Decimal.{leading, decimal};

@@ -1,5 +1,6 @@
 // The (187,105) difference-set cyclic code: code words, check table, what repair and encoder answer, and what is promised of them. The rules
 // are in specs/; `dsc_codec` computes them.
+#![tactic(auto)]
 
 // What the repair answers: the number of places in which the code word differs from the received bits, or the refusal's number.
 #[derive(Drop)]

@@ -1,5 +1,7 @@
 // Words of 187 bits, a bool for each bit: how many places two of them differ in, and the numbers that stand in them. Only the crates of the code call these
 // functions, with words of that size, so sizes are required and nothing is tested.
+#![tactic(auto)]
+
 ghost use Rattle.std.specs.Prelude.{◌≡◌, ◌+◌, ◌≤◌, length, take, drop};
 ghost use Rattle.bits.specs.Bits.{value, digit};
 ghost use Rattle.gf2.specs.Polynomial.{zeros};

@@ -1,5 +1,7 @@
 // Words of 187 bits, a bool for each bit, out of a frame's bytes and into bytes, and the repair's answers. Only the crates of the code call these functions; they
 // have tested the frame's length before, so sizes are required and nothing is tested.
+#![tactic(auto)]
+
 ghost use Rattle.std.specs.Prelude.{◌≡◌, ◌*◌, ◌<◌, ◌≤◌, length, take, drop};
 ghost use Rattle.bits.specs.Bits.{value, bits, digit};
 ghost use Rattle.dsc.specs.Repair.{protected, word_bytes, refused_with, repaired_to};

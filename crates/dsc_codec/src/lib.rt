@@ -1,4 +1,5 @@
 // The repair of the protected part, 64 check rows at a time, and its encoder.
+#![tactic(auto)]
 ghost use Rattle.std.specs.Prelude.{◌≡◌, length};
 ghost use Rattle.dsc.specs.Encoding.{encode_of};
 ghost use Rattle.dsc.specs.Repair.{repaired_to, repair_of, left_in, Repairs};

@@ -1,4 +1,6 @@
 // The encoder: the parity of a message, by long division. Only `dsc_codec` calls it, always with a word of 187 bits, which it therefore requires.
+#![tactic(auto)]
+
 ghost use Rattle.std.specs.Prelude.{◌≡◌, ◌++◌, ◌+◌, ◌<◌, ◌≤◌, length, take, drop};
 ghost use Rattle.gf2.specs.Polynomial.{zeros, add, remainder};
 ghost use Rattle.dsc.specs.Code.{parity_of};

@@ -1,4 +1,6 @@
 // The places on which the majority of the check rows fail, 64 places at a time.
+#![tactic(auto)]
+
 ghost use Rattle.std.specs.Prelude.{[], ◌∷◌};
 ghost use Rattle.dsc_errors.specs.Errors.{Wrapped, MovedMajority, ErrorsFrom};
 

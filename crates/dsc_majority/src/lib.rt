@@ -1,5 +1,7 @@
 // The check sums of the register's state, and the majority of the 17 through the decided place. They are called always with
 // the check table and a state of 82 cells, which they therefore require; `dsc_register` calls the last.
+#![tactic(auto)]
+
 ghost use Rattle.std.specs.Prelude.{◌≡◌, ◌+◌, ◌-◌, ◌%◌, ◌<◌, leb, length, get_or};
 ghost use Rattle.gf2.specs.Polynomial.{◌⊕◌};
 ghost use Rattle.dsc.specs.Code.{generator_low};

@@ -1,6 +1,7 @@
 // The repair with doubtful marks: the code word that differs in t unmarked places with 2t+s at most 17, where s marks are set. A code word differs from
 // the received bits with 0 under all marks and from those with 1 under all marks in 2t+s places together, so that it lies within eight places of one of the
 // two, where the plain repair finds it.
+#![tactic(auto)]
 ghost use Rattle.std.specs.Prelude.{◌≡◌, ◌≤◌, length};
 ghost use Rattle.dsc.specs.Code.{weight};
 ghost use Rattle.dsc.specs.Marks.{marked_repair_of};

@@ -1,5 +1,7 @@
 // The repair of the protected part as the textbook has it: a word is shifted through a register that divides by the generator, and each bit is
 // decided by the majority of 17 check sums taken from the register as it turns. It answers what the shipped repair answers, and is kept plain.
+#![tactic(auto)]
+
 ghost use Rattle.std.specs.Prelude.{◌≡◌, length};
 ghost use Rattle.dsc.specs.Repair.{repair_of, Repairs};
 ghost use Rattle.dsc_shift_register.specs.Register.{register_answer, register_repair_of};

@@ -1,5 +1,7 @@
 // The shift register of 82 cells that divides by the generator, whose 82 lower coefficients are g. Cell 0 is the top, x^81. `dsc_majority` and
 // `dsc_register` call these functions, always with words of 187 bits, so sizes are required.
+#![tactic(auto)]
+
 ghost use Rattle.std.specs.Prelude.{◌≡◌, ◌+◌, ◌<◌, length};
 ghost use Rattle.gf2.specs.Polynomial.{◌⊕◌, zeros, scale};
 ghost use Rattle.gf2.specs.Register.{step};

@@ -1,5 +1,7 @@
 // The sums of a word on the check rows, 64 rows at a time. Only the repair calls these functions, with words in which no bit past the 187 is set, which they
 // therefore require.
+#![tactic(auto)]
+
 ghost use Rattle.dsc_words.specs.Words.{held, Fits};
 ghost use Rattle.dsc_sums.specs.Sums.{Sums};
 

@@ -1,5 +1,7 @@
 // A word of 187 bits in three machine words: out of a frame's bytes, into bytes, its sum with another, its weight, and what stands in it beside marks.
 // Only the repair calls these functions; it has tested the frame's length, and no bit past the 187 is ever set, so that both are required.
+#![tactic(auto)]
+
 ghost use Rattle.std.specs.Prelude.{◌≡◌, true, false, ◌+◌, ◌*◌, ◌%◌, ◌^◌, ◌≤◌, length};
 ghost use Rattle.std.proofs.lemmas.List.Edits.{sets};
 ghost use Rattle.bits.specs.Bits.{bits_of, bytes};

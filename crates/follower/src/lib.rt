@@ -1,4 +1,6 @@
 // Following the update number, by the edition named: the old state goes in by value, the next one comes back with an event.
+#![tactic(auto)]
+
 ghost use Rattle.std.specs.Prelude.{◌≡◌};
 ghost use Rattle.follower.specs.declared.Follower.TheVariants.{Quiet};
 ghost use Rattle.follower.specs.Follow.{information_event, seen_in, seen_of, step_seen};

@@ -1,4 +1,6 @@
 // The kinds of what is announced, and how an update number went, as events.
+#![tactic(auto)]
+
 ghost use Rattle.std.specs.Prelude.{◌≡◌};
 ghost use Rattle.follower_events.specs.Events.{kind_of, kind_number, kind_at, same_kind, change_of};
 

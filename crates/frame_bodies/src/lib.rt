@@ -1,5 +1,7 @@
 // The table of the bodies: how many bits each field of the record has in each, and where they stand. The fields of every body stand in the order of the
 // record, with bits fixed at 1 before and after them, so the widths tell where each stands.
+#![tactic(auto)]
+
 ghost use Rattle.std.specs.Prelude.{◌≡◌};
 ghost use Rattle.frame.specs.Body.{own_update};
 ghost use Rattle.frame.specs.Span.{span_of};

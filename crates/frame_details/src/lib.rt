@@ -1,5 +1,7 @@
 // The details, B24 to B111, read and written by the table of the bodies: the first 88 bits of a slice. More bytes after them let eight be read at
 // once up to the last field. That the 88 bits are there is required: the callers hand over the part from byte 3 on of 26 bytes.
+#![tactic(auto)]
+
 ghost use Rattle.std.specs.Prelude.{◌≡◌, ◌++◌, ◌≤◌, length, take, drop};
 ghost use Rattle.bits.specs.Bits.{bits};
 ghost use Rattle.bits.specs.Segment.{pack_segments};

@@ -1,4 +1,6 @@
 // A record, the list of its fields, and its origin.
+#![tactic(auto)]
+
 ghost use Rattle.std.specs.Prelude.{◌≡◌, length};
 ghost use Rattle.frame.specs.Fields.{field_count, fields, no_origin, record_from};
 

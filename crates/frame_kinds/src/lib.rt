@@ -1,4 +1,6 @@
 // What an identification announces by the edition named, which body the details have, and which areas a record warns.
+#![tactic(auto)]
+
 ghost use Rattle.std.specs.Prelude.{◌≡◌};
 ghost use Rattle.frame.specs.Identification.{schedule1, class_of, flags_wrong, is_undefined};
 ghost use Rattle.frame.specs.Body.{body_of};

@@ -1,4 +1,6 @@
 // Whether a record is legal by the edition named: the body it has, and its own refusals, 6, 10 and 9, which the writer and the report give.
+#![tactic(auto)]
+
 ghost use Rattle.std.specs.Prelude.{◌≡◌};
 ghost use Rattle.frame.specs.Fields.{record_body, too_wide};
 ghost use Rattle.frame.specs.Write.{record_refusal};

@@ -1,6 +1,7 @@
 // What the box answers to frames, as lines of text. Of a frame read: `1 accepted 0 0`, its repaired places and its differing synchronising bits, and the
 // record's fields, or `2 refused 4`.
 // Of a frame repaired: `1 repaired 0` and the repaired word, or `2 refused 4`. What the lines tell of is proved in `frame_reader` and `dsc_codec`.
+#![tactic(auto)]
 use dsc::Outcome;
 use frame::{Edition, FIELDS, Reading, Record, Tuner};
 use libc::{STDIN_FILENO, STDOUT_FILENO};

@@ -1,5 +1,6 @@
 // The cable multiplex frame header, 188 bytes: what it holds, and what reading and writing it answer. The rules are in specs/; `header_reader`, `header_legality` and
 // `header_writer` compute them, and `header_inserter` lays a frame into it.
+#![tactic(auto)]
 
 // The header up to its extension, 99 bytes. Streams are numbered from 1 and slots from 2, so that the first element is that of stream 1 or slot 2.
 #[derive(Drop)]

@@ -1,5 +1,7 @@
 // Arrays of a header's values: zeros, runs of values copied, and a search. Nothing here is an entry point of the box. That a run finds room is required: the
 // callers copy at fixed places, out of and into the values of a header, whose number they know.
+#![tactic(auto)]
+
 ghost use Rattle.std.specs.Prelude.{◌≡◌, ◌+◌, ◌*◌, ◌<◌, ◌≤◌, length, replicate};
 ghost use Rattle.header.specs.Fields.{run, pairs};
 ghost use Rattle.gf2.specs.Polynomial.{member};

@@ -1,4 +1,6 @@
 // A header's fields, out of the order of the layout and into it. Nothing here is an entry point of the box.
+#![tactic(auto)]
+
 ghost use Rattle.std.specs.Prelude.{◌≡◌};
 ghost use Rattle.header.specs.Fields.{front_fields, front_of, extension_of};
 

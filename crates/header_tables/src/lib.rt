@@ -1,4 +1,6 @@
 // The layouts of a header's two parts as tables: kind 0 is a field, 1 is fixed at 1. Nothing here is an entry point of the box.
+#![tactic(auto)]
+
 mod ac;
 
 ghost use Rattle.std.specs.Prelude.{◌≡◌};

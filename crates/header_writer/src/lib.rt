@@ -1,4 +1,5 @@
 // Writing a header: the bytes of a record.
+#![tactic(auto)]
 ghost use Rattle.std.specs.Prelude.{◌≡◌, length, take, drop, ◌++◌};
 ghost use Rattle.bits.specs.Bits.{bytes};
 ghost use Rattle.bits.specs.Segment.{pack_segments};

@@ -1,4 +1,6 @@
 // Reading standard input, for the listing and the ledger.
+#![tactic(auto)]
+
 ghost use Rattle.std.specs.Prelude.{◌≤◌, length};
 
 use libc::STDIN_FILENO;

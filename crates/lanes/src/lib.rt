@@ -1,4 +1,6 @@
 // Words of 64 bits as 64 lanes side by side: adders that add up a bit of each lane at once.
+#![tactic(auto)]
+
 ghost use Rattle.std.specs.Prelude.{◌≡◌, [], ◌∷◌, ℕ, ◌+◌, ◌*◌, ◌≤◌, leb};
 ghost use Rattle.std.specs.Int.Count as digits;
 ghost use Rattle.bits.specs.Bits.{digit};

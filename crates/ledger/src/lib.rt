@@ -1,5 +1,6 @@
 // The day's ledger: how many frames were seen, refused with each number and accepted, and how many places were repaired in all. The rules are in specs/;
 // `ledger_numbers`, `ledger_counter`, `ledger_printer` and `ledger_parser` compute them.
+#![tactic(auto)]
 ghost use Rattle.std.specs.Prelude.{◌≡◌};
 ghost use Rattle.ledger.specs.Counting.{fresh};
 

@@ -1,5 +1,6 @@
 // The ledger of an input, in turns: a part of the input is read, its frames are counted, and so on until nothing is left to read. The rules are in specs/;
 // here are the numbers of a turn, and `ledger_counter` makes one.
+#![tactic(auto)]
 ghost use Rattle.std.specs.Prelude.{◌≡◌};
 ghost use Rattle.ledger_input.specs.Input.{start, wanted_at};
 

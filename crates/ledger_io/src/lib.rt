@@ -1,5 +1,6 @@
 // The ledger of the frames on standard input, and its report on standard output, by the edition named. What is counted is proved in `ledger_input` and
 // `ledger_counter`, and the text in `ledger_printer`; here is only the reading and writing, 65,520 bytes at a time, so that the system is asked seldom.
+#![tactic(auto)]
 ghost use Rattle.std.specs.Prelude.{◌≡◌, ◌≤◌, length};
 ghost use Rattle.ledger.specs.Report.{length_of};
 ghost use Rattle.ledger_input.specs.Input.{with_report};

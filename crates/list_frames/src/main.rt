@@ -1,4 +1,5 @@
 // Writes a line for each frame on standard input, judged by the first edition, and a last line with their count.
+#![tactic(auto)]
 use frame::Edition;
 use listing::Pieces;
 

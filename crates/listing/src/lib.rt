@@ -1,5 +1,7 @@
 // The listing: a line of text for each piece of the input, and a last line with the count. The rules are in specs/; `listing_lines` and
 // `listing_writer` write it.
+#![tactic(auto)]
+
 ghost use Rattle.std.specs.Prelude.{◌≡◌, ◌+◌, ◌≤◌, min};
 ghost use Rattle.listing.specs.Lines.{piece_size, piece_count};
 

@@ -1,6 +1,7 @@
 // The listing of the pieces on standard input, on standard output, by the edition named and by what the input is made of. What is read, and the text that is
 // written, are proved in `listing_turns` and `listing_pieces`; here is only the reading and writing, 65,520 bytes at a time, so that the system is asked
 // seldom.
+#![tactic(auto)]
 ghost use Rattle.std.specs.Prelude.{◌≡◌, ◌≤◌, length};
 ghost use Rattle.listing_io.specs.Reading.{TurnMade};
 

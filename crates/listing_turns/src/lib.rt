@@ -1,5 +1,6 @@
 // The listing in turns: a part of the input is read, its lines are written, and so on until nothing is left to read. The rules are in specs/; here are the
 // numbers of a turn, and `listing_pieces` lists a piece.
+#![tactic(auto)]
 ghost use Rattle.std.specs.Prelude.{◌≡◌, ◌+◌};
 ghost use Rattle.listing.specs.Lines.{piece_count};
 ghost use Rattle.listing_turns.specs.Turns.{per_turn, turn_bytes, wanted_after, fits, start};

@@ -1,4 +1,6 @@
 // Numbers: powers of 2, low bits, the smaller of two.
+#![tactic(auto)]
+
 ghost use Rattle.std.specs.Prelude.{◌≡◌, ◌%◌, ◌^◌, ◌<◌, min};
 
 // 2 to the power k. It requires k below 64, since no larger power is a number of 64 bits.

@@ -1,5 +1,6 @@
 // Where a hypocentre is: the frame's field values as degrees and kilometres, and the desk's place as field values. The rules are in specs/;
 // `place_images` and `place_desk` compute them.
+#![tactic(auto)]
 
 // A place as three doubles: degrees, south and west negative, and kilometres.
 #[derive(Drop)]

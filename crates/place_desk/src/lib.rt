@@ -1,4 +1,6 @@
 // The desk's place: three doubles become field values exactly when each has the very bits of an allowed field value's image.
+#![tactic(auto)]
+
 ghost use Rattle.std.specs.Prelude.{◌≡◌, ◌≤◌};
 ghost use Rattle.place.specs.Degrees.{degrees_of, kilometres_of};
 ghost use Rattle.place.specs.Desk.{same_bits, value_of, signed_of, conversion_of};

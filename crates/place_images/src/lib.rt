@@ -1,4 +1,6 @@
 // Field values as doubles.
+#![tactic(auto)]
+
 ghost use Rattle.std.specs.Prelude.{◌≡◌};
 ghost use Rattle.place.specs.Degrees.{degrees_of, kilometres_of};
 

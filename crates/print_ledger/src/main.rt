@@ -1,4 +1,5 @@
 // Writes the report of the frames on standard input, judged by the first edition.
+#![tactic(auto)]
 use frame::Edition;
 
 fn main() {

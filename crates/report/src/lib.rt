@@ -1,4 +1,5 @@
 // What a record reports, by the edition named.
+#![tactic(auto)]
 ghost use Rattle.std.specs.Prelude.{◌≡◌};
 ghost use Rattle.report.specs.Report.{reported_by, report_of};
 

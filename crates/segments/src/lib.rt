@@ -1,5 +1,7 @@
 // Rows of segments, fields and fixed bits end to end, by a table of kinds beside a table of widths: kind 0 is a field, 1 is fixed at 1, any other at 0.
 // The tables are the calling program's own, known when it is written: that they have one length and find room is for its proof to show once.
+#![tactic(auto)]
+
 ghost use Rattle.std.specs.Prelude.{◌≡◌, ◌&&◌, ◌++◌, ◌+◌, ◌<◌, ◌≤◌, length, drop};
 ghost use Rattle.bits.specs.Bits.{bits};
 ghost use Rattle.bits.specs.Layout.{sum, Layout};

@@ -1,4 +1,6 @@
 // The synchronising bits of a frame, B1 to B16: the two patterns, and which of them bits fit.
+#![tactic(auto)]
+
 ghost use Rattle.std.specs.Prelude.{◌≡◌};
 ghost use Rattle.bits.specs.Bits.{bits_of};
 ghost use Rattle.sync_pattern.specs.Pattern.{pattern_word, differing_from, sync_of};

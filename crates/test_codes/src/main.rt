@@ -1,4 +1,5 @@
 // Runs test cases of the checksums, of the code and of fields of bits: see `test_cases`. The cases, and what they must answer, come from rust/vectors.
+#![tactic(auto)]
 use dsc::Outcome;
 use test_cases::Case;
 

@@ -1,5 +1,6 @@
 // Runs test cases of frames and records: see `test_cases`. The cases, and what they must answer, come from rust/vectors. A case's third number names the
 // edition, as a C program does.
+#![tactic(auto)]
 use test_cases::Case;
 
 // The edition that a case names.

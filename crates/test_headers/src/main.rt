@@ -1,4 +1,5 @@
 // Runs test cases of the cable header: see `test_cases`. The cases, and what they must answer, come from rust/vectors.
+#![tactic(auto)]
 use test_cases::Case;
 
 fn seal(header: &mut [u8]) -> u64 {

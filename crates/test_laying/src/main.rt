@@ -1,5 +1,6 @@
 // Runs test cases of laying a frame into a header and taking it out: see `test_cases`. The cases, and what they must answer, come from rust/vectors. A
 // case's third number names the edition, as a C program does.
+#![tactic(auto)]
 use test_cases::Case;
 
 fn answer(operation: u8, edition: u32, input: &[u8], lent: &mut [u8]) -> u64 {

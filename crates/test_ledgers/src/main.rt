@@ -1,5 +1,6 @@
 // Runs test cases of the day's ledger: see `test_cases`. The cases, and what they must answer, come from rust/vectors. A case's third number names the
 // edition, as a C program does; a ledger is a slice of numbers.
+#![tactic(auto)]
 use test_cases::Case;
 
 // The status of an operation that is lent a ledger.

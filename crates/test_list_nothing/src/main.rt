@@ -1,4 +1,5 @@
 // The listing of no frames.
+#![tactic(auto)]
 use frame::Edition;
 use listing::Pieces;
 

@@ -1,6 +1,7 @@
 // Runs test cases of the functions that take doubtful marks: see `test_cases`. The cases, and what they must answer, come from rust/vectors. A case's first
 // slice is a frame and its marks, the frame as long as the case's first number says; the second number names the tuner and the third one the edition, as
 // a C program does.
+#![tactic(auto)]
 use test_cases::Case;
 
 // The edition that a case names.

@@ -1,5 +1,6 @@
 // Runs test cases of reports and places, doubles by their bits: see `test_cases`. The cases, and what they must answer, come from rust/vectors. The third
 // number of a report names the edition, as a C program does.
+#![tactic(auto)]
 use test_cases::Case;
 
 fn put_doubles(s: &[f64; 4]) {

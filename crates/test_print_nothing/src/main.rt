@@ -1,4 +1,5 @@
 // The report of no frames.
+#![tactic(auto)]
 use frame::Edition;
 
 fn main() {

@@ -1,5 +1,6 @@
 // Runs test cases of the follower and of the captures: see `test_cases`. The cases, and what they must answer, come from rust/vectors. A case's third
 // number names the edition, as a C program does.
+#![tactic(auto)]
 use follower::Follower;
 use follower_events::{Event, Kind};
 use frame::Edition;

@@ -1,4 +1,6 @@
 // What test cases are made of: bytes as numbers, and doubles by their bits.
+#![tactic(auto)]
+
 ghost use Rattle.std.specs.Prelude.{◌+◌, ◌/◌, ◌≤◌, min, ◌≡◌, ◌++◌, length, take, drop, replicate};
 ghost use Rattle.std.specs.Float.{nan, binary64};
 ghost use Rattle.std.specs.Float.Ieee.{of_bits, to_bits};

@@ -1,0 +1,15 @@
+use mathlib.Core.Path.{◌≡◌, ◌∙◌, ap, refl}
+use Prim.Native.Nat.{ℕ, ◌+◌, ◌-◌, ◌*◌, ◌/◌, ◌%◌, ◌≤◌}
+use native.Mathlib.Omega.{arith}
+use lib.ListN.{length}
+use lib.Seq.{paste, paste-zero}
+use Rattle.bits.specs.Bits.{bits, bits_of}
+use Rattle.bits.proofs.Bits.{length-bits}
+use Rattle.bits.proofs.Field.{put_bits-add}
+use Rattle.bit_fields.proofs.write_field.Given as goal
+
+abbrev pub invariant-loop-i : goal.invariant-loop-i
+invariant-loop-i l = (l.i ≤ l.width) × (length l.s ≡ length l.initial.s) × (bits l.s ≡ paste (bits l.initial.s) l.at (bits_of l.width l.v) l.i)
+
+abbrev pub decreases-loop-i : goal.decreases-loop-i
+decreases-loop-i l = l.width - l.i

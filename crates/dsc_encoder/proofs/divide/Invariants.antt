@@ -1,0 +1,17 @@
+use mathlib.Core.Path.{◌≡◌, sym, ap, ap₂, ◌∙◌}
+use mathlib.Core.Logic.{⊎_elim}
+use mathlib.Core.List.{◌++◌}
+use Prim.Native.Nat.{suc, ◌≤◌, ◌-◌, ◌+◌}
+use native.Mathlib.Omega.{arith}
+use lib.ListN.{length, take, drop}
+use Rattle.gf2.specs.Polynomial.{add, remainder}
+use Rattle.bits.proofs.Slices.{rest-lent}
+use Rattle.dsc_encoder.proofs.LongDivision.{step-over, step-add, length-added}
+use Rattle.dsc_encoder.proofs.divide.Given as goal
+
+-- `dsc_encoder::divide` meets its contract: what is still to be divided has the remainder of the whole. Assumes nothing.
+abbrev pub invariant-loop-k : goal.invariant-loop-k
+invariant-loop-k l = (l.k ≤ 105) × (length l.w ≡ 187) × (remainder l.g (105 - l.k) (drop l.k l.w) ≡ remainder l.g 105 l.initial.w)
+
+abbrev pub decreases-loop-k : goal.decreases-loop-k
+decreases-loop-k l = 105 - l.k

@@ -1,0 +1,18 @@
+use mathlib.Core.Path.{◌≡◌, ◌∙◌, sym, ap}
+use Prim.Native.Nat.{◌≤◌, ◌-◌, ◌+◌, ◌%◌}
+use native.Mathlib.Omega.{arith}
+use lib.ListN.{drop, get_or}
+use Rattle.bits.specs.Bits.{digit}
+use Rattle.dsc.specs.Code.{count}
+use Rattle.dsc.specs.CheckTable.{differences, rows_of, syndrome, failures}
+use Rattle.dsc.proofs.TableRows.{length-rows, rows_at}
+use Rattle.dsc_bits.proofs.Steps.{count_next, count-done}
+use Rattle.dsc_shift_register.specs.Register.{decided_place}
+use Rattle.dsc_majority.proofs.failure_count.Given as goal
+
+-- `dsc_majority::failure_count` meets its contract: the count so far and that of the rows to come make the whole. Assumes nothing.
+abbrev pub invariant-loop-i : goal.invariant-loop-i
+invariant-loop-i l = (l.i ≤ 17) × (l.n ≤ l.i) × (l.n + count (syndrome l.s) (drop l.i (rows_of decided_place)) ≡ failures l.s decided_place)
+
+abbrev pub decreases-loop-i : goal.decreases-loop-i
+decreases-loop-i l = 17 - l.i
