@@ -7,7 +7,7 @@ use frame::{Edition, Record};
 use place::{Conversion, Fields, Place};
 
 // What the desk gives beside the place: the record's fields of the same names.
-#[derive(Drop)]
+#[derive(Clone, Copy)]
 pub struct DeskWarning {
     pub identification: u64,
     pub update: u64,
@@ -19,7 +19,7 @@ pub struct DeskWarning {
 }
 
 // What making it answers: the record, or the refusal.
-#[derive(Drop)]
+#[derive(Clone, Copy)]
 pub enum DeskRecord {
     Made(Record),
     Refused(u8),
