@@ -1,5 +1,6 @@
 // A record that is made at the desk: the place page of a warning, with a hand-typed place, judged by the edition named. No tuner received it.
 #![tactic(auto)]
+
 ghost use Rattle.std.specs.Prelude.{◌≡◌};
 ghost use Rattle.desk_record.specs.DeskRecord.{place_record, desk_record_of};
 
