@@ -59,6 +59,6 @@ returns c =
     let a = c.args in
     line-no-feed a.label.now a.text.now (starts (goal.at.returns c).Else-not-starts_with) c.in-Number.number c.in-Number.digits (number (goal.at.returns c).In-Number)
     (elim c.else-end-text.branch [
-      else-end-text-via-then-end-text+else-text-end-eq10 w ↦ w.if-text-end-eq10.false
+      | else-end-text-via-then-end-text+else-text-end-eq10 w ↦ w.if-text-end-eq10.false
       | else-end-text-via-else-end-text w ↦ λ e. omega (arith, get_or-eq_default a.text.now 0 {n = length a.label.now + c.in-Number.digits} w.if-end-text.false)
     ])
