@@ -7,17 +7,17 @@ use Rattle.dsc_errors.proofs.errors.Goals as goal
 
 pub returns-then-first-gt8 : goal.returns-then-first-gt8
 returns-then-first-gt8 c =
-    many-low c.wrap-fourth.ensures c.majority-low.ensures (search rules) (omega (arith, c.ones-first.ensures, c.if-first-gt8.true))
+    many-low c.wrap-fourth.ensures c.majority-low.ensures (search rules) (omega arith)
 
 pub returns-then-second-gt8 : goal.returns-then-second-gt8
 returns-then-second-gt8 c =
     many-middle c.wrap-fourth.ensures c.majority-low.ensures (search rules) c.wrap-fifth.ensures c.majority-next.ensures (search rules)
-    (omega (arith, c.ones.ensures, c.ones-first.ensures, c.if-second-gt8.true))
+    (omega arith)
 
 pub returns-then-places-gt8 : goal.returns-then-places-gt8
 returns-then-places-gt8 c =
     many-high c.wrap-fourth.ensures c.majority-low.ensures (search rules) c.wrap-fifth.ensures c.majority-next.ensures (search rules) c.wrap-sixth.ensures c.majority-last.ensures
-    (omega (arith, c.ones-2.ensures, c.ones.ensures, c.ones-first.ensures, c.if-places-gt8.true))
+    (omega arith)
 
 pub returns : goal.returns
 returns c =
@@ -26,10 +26,7 @@ returns c =
       error-word c.wrap-fourth.ensures c.majority-low.ensures (search rules) c.wrap-fifth.ensures c.majority-next.ensures (search rules) c.wrap-sixth.ensures c.majority-last.ensures,
       omega (
         arith,
-        c.ones-2.ensures,
-        c.ones.ensures,
-        c.ones-first.ensures,
         weight-word_of c.majority-low.result c.majority-next.result _ (search rules) (search rules) fits,
       ),
-      omega (arith, c.if-places-gt8.false),
+      omega arith,
     )
