@@ -2,7 +2,8 @@
 #![tactic(auto)]
 use frame::Edition;
 use listing::Pieces;
+use std::io;
 
-fn main() {
-    listing_io::run(Edition::AreaSafety, Pieces::Frames);
+fn main(rt: HostRuntime) -> io::Result<()> {
+    listing_io::run(Edition::AreaSafety, Pieces::Frames, &mut rt.stdin(), &mut rt.stdout())
 }

@@ -5,7 +5,8 @@
 #![tactic(auto)]
 use frame::Edition;
 use listing::Pieces;
+use std::io;
 
-fn main() {
-    listing_io::run(Edition::First, Pieces::MarkedFrames);
+fn main(rt: HostRuntime) -> io::Result<()> {
+    listing_io::run(Edition::First, Pieces::MarkedFrames, &mut rt.stdin(), &mut rt.stdout())
 }

@@ -1,7 +1,8 @@
 // The report of no frames.
 #![tactic(auto)]
 use frame::Edition;
+use std::io;
 
-fn main() {
-    ledger_io::run(Edition::First);
+fn main(rt: HostRuntime) -> io::Result<()> {
+    ledger_io::run(Edition::First, &mut rt.stdin(), &mut rt.stdout())
 }
