@@ -1,5 +1,6 @@
 // The edition as a plain number, as a C program names it.
 #![tactic(auto)]
+
 ghost use Rattle.std.specs.Prelude.{◌≡◌};
 ghost use Rattle.abi_edition.specs.Edition.{edition_of};
 

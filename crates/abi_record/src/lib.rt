@@ -1,6 +1,7 @@
 // A frame's record over plain numbers: its fields in their order, then the tuner's number and the number of repaired places. Both functions require that
 // there are as many values as a record has: their callers have tested the length of what they were lent.
 #![tactic(auto)]
+
 ghost use Rattle.std.specs.Prelude.{◌≡◌, length};
 ghost use Rattle.abi_record.specs.Values.{value_count, values_of, record_at};
 

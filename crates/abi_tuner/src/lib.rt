@@ -1,5 +1,6 @@
 // The tuner as a plain number, as a C program tells it and a record over plain numbers holds it.
 #![tactic(auto)]
+
 ghost use Rattle.std.specs.Prelude.{◌≡◌};
 ghost use Rattle.abi_tuner.specs.Tuner.{tuner_of, tuner_number};
 

@@ -6,7 +6,7 @@ ghost use Rattle.capture.specs.Capture.{part_at, position_at, number_at, numbers
 use frame::{Edition, Tuner};
 
 // Both tuners' refusal numbers, 0 for accepted.
-#[derive(Drop)]
+#[derive(Clone, Copy)]
 pub struct TunerNumbers {
     pub main: u8,
     pub spare: u8,

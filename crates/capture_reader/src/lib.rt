@@ -7,7 +7,7 @@ use frame::{Edition, Reading, Record, Tuner};
 
 // What reading a frame of two captures answers: its record, with its tuner, and how many bits of B1 to B16 differed from the pattern; or both tuners'
 // refusal numbers, main first, where neither has it.
-#[derive(Drop)]
+#[derive(Clone, Copy)]
 pub enum CaptureReading {
     Accepted(Record, u8),
     Refused(u8, u8),

@@ -1,5 +1,6 @@
 // The CRC-10 of frames, up to eight bits at a time.
 #![tactic(auto)]
+
 ghost use Rattle.std.specs.Prelude.{◌≡◌, ◌^◌, ◌<◌, ◌≤◌, take, drop};
 ghost use Rattle.bits.specs.Bits.{bits, value, bits_of};
 ghost use Rattle.gf2.specs.Register.{feed};

@@ -1,5 +1,6 @@
 // The CRC-32 of headers, eight bytes at a time.
 #![tactic(auto)]
+
 ghost use Rattle.std.specs.Prelude.{◌≡◌, [], ◌∷◌, ◌*◌, ◌/◌, ◌<◌, length, take};
 ghost use Rattle.bits.specs.Bits.{bits, value, bits_of};
 ghost use Rattle.gf2.specs.Polynomial.{check_bits};

@@ -8,7 +8,7 @@ ghost use Rattle.decimals.specs.Put.{Put};
 ghost use Rattle.decimals.specs.Reading.{starts_with, is_digit, digits_from, decimal_at};
 
 // What a text begins with: a number, and how many bytes of the text it takes; or no number.
-#[derive(Drop)]
+#[derive(Clone, Copy)]
 pub enum Found {
     Number(u64, usize),
     Nothing,

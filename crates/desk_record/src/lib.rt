@@ -1,5 +1,6 @@
 // A record that is made at the desk: the place page of a warning, with a hand-typed place, judged by the edition named. No tuner received it.
 #![tactic(auto)]
+
 ghost use Rattle.std.specs.Prelude.{◌≡◌};
 ghost use Rattle.desk_record.specs.DeskRecord.{place_record, desk_record_of};
 
@@ -7,7 +8,7 @@ use frame::{Edition, Record};
 use place::{Conversion, Fields, Place};
 
 // What the desk gives beside the place: the record's fields of the same names.
-#[derive(Drop)]
+#[derive(Clone, Copy)]
 pub struct DeskWarning {
     pub identification: u64,
     pub update: u64,
@@ -19,7 +20,7 @@ pub struct DeskWarning {
 }
 
 // What making it answers: the record, or the refusal.
-#[derive(Drop)]
+#[derive(Clone, Copy)]
 pub enum DeskRecord {
     Made(Record),
     Refused(u8),

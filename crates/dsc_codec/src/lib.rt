@@ -1,5 +1,6 @@
 // The repair of the protected part, 64 check rows at a time, and its encoder.
 #![tactic(auto)]
+
 ghost use Rattle.std.specs.Prelude.{◌≡◌, length};
 ghost use Rattle.dsc.specs.Encoding.{encode_of};
 ghost use Rattle.dsc.specs.Repair.{repaired_to, repair_of, left_in, Repairs};
@@ -12,7 +13,7 @@ use dsc_sums::MiddleSums;
 use dsc_words::Word;
 
 // What the engine finds: a code word within eight places, and in how many it differs, or that there is none. `dsc_marked` has this and `find` too.
-#[derive(Drop)]
+#[derive(Clone, Copy)]
 pub enum Found {
     Near(Word, u8),
     Far,

@@ -41,7 +41,7 @@ fn wrap(x: u64, y: u64) -> u64
 }
 
 // The error word and how many places it has, or that they are more than eight.
-#[derive(Drop)]
+#[derive(Clone, Copy)]
 pub enum Pattern {
     Few(Word, u8),
     Many,

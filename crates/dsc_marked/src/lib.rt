@@ -2,6 +2,7 @@
 // the received bits with 0 under all marks and from those with 1 under all marks in 2t+s places together, so that it lies within eight places of one of the
 // two, where the plain repair finds it.
 #![tactic(auto)]
+
 ghost use Rattle.std.specs.Prelude.{◌≡◌, ◌≤◌, length};
 ghost use Rattle.dsc.specs.Code.{weight};
 ghost use Rattle.dsc.specs.Marks.{marked_repair_of};

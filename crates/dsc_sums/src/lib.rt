@@ -10,14 +10,14 @@ use dsc_words::Word;
 mod product;
 
 // The sums on rows 128 to 255. No place past 272 comes round to them, and a code word is known by them: any 82 neighbouring rows decide.
-#[derive(Drop)]
+#[derive(Clone, Copy)]
 pub struct MiddleSums {
     pub rows128: u64,
     pub rows192: u64,
 }
 
 // The sums on the other rows: 0 to 63, 64 to 127 and 256 to 272. Lanes 17 to 63 of the last mean nothing.
-#[derive(Drop)]
+#[derive(Clone, Copy)]
 pub struct OuterSums {
     pub rows0: u64,
     pub rows64: u64,

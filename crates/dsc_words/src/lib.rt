@@ -12,7 +12,7 @@ ghost use Rattle.dsc.specs.Repair.{protected, word_bytes};
 ghost use Rattle.dsc_words.specs.Words.{held, Fits};
 
 // Bit n of the three, the lowest first, is the coefficient of x^n.
-#[derive(Drop)]
+#[derive(Clone, Copy)]
 pub struct Word {
     pub low: u64,
     pub middle: u64,

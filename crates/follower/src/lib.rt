@@ -10,7 +10,7 @@ use frame::{Class, Edition, Reading, Record};
 
 // What a frame shows to the follower: information, which is a warning or area safety information, of this kind and with this update number; that there is
 // none; or a refusal.
-#[derive(Drop)]
+#[derive(Clone, Copy)]
 pub enum Seen {
     Information(Kind, u64),
     Silence,
@@ -18,13 +18,13 @@ pub enum Seen {
 }
 
 // The state: quiet, or information of this kind, with its update number.
-#[derive(Drop)]
+#[derive(Clone, Copy)]
 pub enum Follower {
     Quiet,
     Active(Kind, u64),
 }
 
-#[derive(Drop)]
+#[derive(Clone, Copy)]
 pub struct Step {
     pub next: Follower,
     pub event: Event,

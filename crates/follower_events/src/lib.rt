@@ -5,7 +5,7 @@ ghost use Rattle.std.specs.Prelude.{◌≡◌};
 ghost use Rattle.follower_events.specs.Events.{kind_of, kind_number, kind_at, same_kind, change_of};
 
 // Identification 0 and 1 are a real warning, 2 and 3 a test of it; 5 is area safety information, 6 a test of that.
-#[derive(Drop)]
+#[derive(Clone, Copy)]
 pub enum Kind {
     Real,
     Test,
@@ -13,7 +13,7 @@ pub enum Kind {
     SafetyTest,
 }
 
-#[derive(Drop)]
+#[derive(Clone, Copy)]
 pub enum Event {
     Quiet,
     Ended,

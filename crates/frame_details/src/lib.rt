@@ -12,7 +12,7 @@ ghost use Rattle.frame_details.specs.Details.{fields_read, ones_hold, ones_writt
 use frame::{Body, FIELDS, Record};
 
 // What the details hold: whether the fixed bits are as they should be, and the record.
-#[derive(Drop)]
+#[derive(Clone, Copy)]
 pub struct Details {
     pub holds: bool,
     pub contents: Record,

@@ -10,7 +10,7 @@ use frame::{Cleaned, Edition, Origin, Reading, Tuner, Verdict};
 use frame_refusals::Preamble;
 
 // A frame examined: what is read, with the repaired word beside it, which is 0 on a refusal.
-#[derive(Drop)]
+#[derive(Clone, Copy)]
 pub struct Examined {
     pub reading: Reading,
     pub word: [u8; 26],

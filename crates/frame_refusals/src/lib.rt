@@ -14,7 +14,7 @@ use frame_details::Details;
 use sync_pattern::Sync;
 
 // What the tests before the repair say, and what they find before the word, in B0 to B16.
-#[derive(Drop)]
+#[derive(Clone, Copy)]
 pub enum Preamble {
     // the reference, the pattern, and how many bits of B1 to B16 differ from it
     Passed(u64, u64, u8),

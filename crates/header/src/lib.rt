@@ -3,7 +3,7 @@
 #![tactic(auto)]
 
 // The header up to its extension, 99 bytes. Streams are numbered from 1 and slots from 2, so that the first element is that of stream 1 or slot 2.
-#[derive(Drop)]
+#[derive(Clone, Copy)]
 pub struct Front {
     // 32 bits, byte 0 of the header highest
     pub packet: u64,
@@ -26,20 +26,20 @@ pub struct Front {
 }
 
 // The extension, 85 bytes: the 204 AC bits as 25 bytes and then 4 bits.
-#[derive(Drop)]
+#[derive(Clone, Copy)]
 pub struct Extension {
     pub ac: [u64; 26],
 }
 
 // A header without its fixed bits and its CRC, which are derived.
-#[derive(Drop)]
+#[derive(Clone, Copy)]
 pub struct Header {
     pub front: Front,
     pub extension: Extension,
 }
 
 // What reading a header answers: the refusal's number, or 0 with the header, which is all 0 on a refusal.
-#[derive(Drop)]
+#[derive(Clone, Copy)]
 pub struct HeaderReading {
     pub number: u8,
     pub header: Header,

@@ -8,13 +8,13 @@ ghost use Rattle.header_reader.specs.Parts.{front_found, extension_found};
 use header::{Extension, Front, Header, HeaderReading};
 
 // A part, and whether its fixed bits are as they should be.
-#[derive(Drop)]
+#[derive(Clone, Copy)]
 pub struct FrontFound {
     pub fixed: bool,
     pub front: Front,
 }
 
-#[derive(Drop)]
+#[derive(Clone, Copy)]
 pub struct ExtensionFound {
     pub fixed: bool,
     pub extension: Extension,

@@ -7,7 +7,7 @@ ghost use Rattle.bits.specs.Bits.{digit};
 ghost use Rattle.lanes.specs.Lane.{lane, set_in};
 
 // What an adder gives in each lane: the lowest bit of the sum, and the carry.
-#[derive(Drop)]
+#[derive(Clone, Copy)]
 pub struct Added {
     pub sum: u64,
     pub carry: u64,

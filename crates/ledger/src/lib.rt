@@ -1,11 +1,12 @@
 // The day's ledger: how many frames were seen, refused with each number and accepted, and how many places were repaired in all. The rules are in specs/;
 // `ledger_numbers`, `ledger_counter`, `ledger_printer` and `ledger_parser` compute them.
 #![tactic(auto)]
+
 ghost use Rattle.std.specs.Prelude.{◌≡◌};
 ghost use Rattle.ledger.specs.Counting.{fresh};
 
 // The numbers for the inspector.
-#[derive(Drop)]
+#[derive(Clone, Copy)]
 pub struct Ledger {
     pub seen: u64,
     // with refusal 1 to 9, that of refusal 1 first
@@ -16,7 +17,7 @@ pub struct Ledger {
 }
 
 // What counting a frame and reading a report answer: the refusal's number, or 0, with the ledger.
-#[derive(Drop)]
+#[derive(Clone, Copy)]
 pub struct LedgerAnswer {
     pub number: u8,
     pub ledger: Ledger,

@@ -1,13 +1,14 @@
 // The ledger of an input, in turns: a part of the input is read, its frames are counted, and so on until nothing is left to read. The rules are in specs/;
 // here are the numbers of a turn, and `ledger_counter` makes one.
 #![tactic(auto)]
+
 ghost use Rattle.std.specs.Prelude.{◌≡◌};
 ghost use Rattle.ledger_input.specs.Input.{start, wanted_at};
 
 use ledger::Ledger;
 
 // What a turn answers: the ledger so far, and how many bytes are to be read next, 0 where the input has ended or 4,000,000 frames are counted.
-#[derive(Drop)]
+#[derive(Clone, Copy)]
 pub struct LedgerTurn {
     pub ledger: Ledger,
     pub wanted: usize,

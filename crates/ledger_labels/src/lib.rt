@@ -1,5 +1,6 @@
 // What stands before the number of each line of a report: one text for the printer and the parser.
 #![tactic(auto)]
+
 ghost use Rattle.std.specs.Prelude.{◌≡◌, ◌≤◌};
 ghost use Rattle.ledger_labels.specs.Labels.{label_text, label_start};
 

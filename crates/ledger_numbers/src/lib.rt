@@ -1,5 +1,6 @@
 // The numbers of a ledger: whether some list of frames gives them, a frame more, and the 12 of them in the order of the report.
 #![tactic(auto)]
+
 ghost use Rattle.std.specs.Prelude.{◌≡◌, true, ◌≤◌, min, length};
 ghost use Rattle.bits.specs.Layout.{sum};
 ghost use Rattle.ledger.specs.Counting.{places_counted, possible, with_verdict};

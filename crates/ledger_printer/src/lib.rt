@@ -8,7 +8,7 @@ ghost use Rattle.ledger_labels.specs.Labels.{label_text};
 use ledger::Ledger;
 
 // The refusal's number, or 0 with how many bytes the report has.
-#[derive(Drop)]
+#[derive(Clone, Copy)]
 pub struct ReportLength {
     pub number: u8,
     pub bytes: usize,

@@ -6,7 +6,7 @@ ghost use Rattle.std.specs.Prelude.{◌≡◌, ◌+◌, ◌≤◌, min};
 ghost use Rattle.listing.specs.Lines.{piece_size, piece_count};
 
 // What an input is made of.
-#[derive(Drop)]
+#[derive(Clone, Copy)]
 pub enum Pieces {
     // document 01: frames of 26 bytes
     Frames,

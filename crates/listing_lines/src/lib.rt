@@ -1,6 +1,7 @@
 // The lines of the listing, stored in a buffer: a piece's line, for which room is required, since `listing_writer` has tested it
 // for all lines at once, and the last line.
 #![tactic(auto)]
+
 ghost use Rattle.std.specs.Prelude.{◌≡◌, ◌+◌, ◌≤◌, length};
 ghost use Rattle.decimals.specs.Put.{Put};
 ghost use Rattle.listing.specs.Lines.{places_text, line_of, end_count, end_of};

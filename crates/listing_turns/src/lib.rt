@@ -1,6 +1,7 @@
 // The listing in turns: a part of the input is read, its lines are written, and so on until nothing is left to read. The rules are in specs/; here are the
 // numbers of a turn, and `listing_pieces` lists a piece.
 #![tactic(auto)]
+
 ghost use Rattle.std.specs.Prelude.{◌≡◌, ◌+◌};
 ghost use Rattle.listing.specs.Lines.{piece_count};
 ghost use Rattle.listing_turns.specs.Turns.{per_turn, turn_bytes, wanted_after, fits, start};
@@ -9,7 +10,7 @@ use listing::Pieces;
 
 // What a turn answers: how many bytes of the buffer are to be written, how many pieces are listed by now, and how many bytes are to be read next, 0 where the
 // listing is over.
-#[derive(Drop)]
+#[derive(Clone, Copy)]
 pub struct Turn {
     pub written: usize,
     pub listed: u32,

@@ -3,7 +3,7 @@
 #![tactic(auto)]
 
 // A place as three doubles: degrees, south and west negative, and kilometres.
-#[derive(Drop)]
+#[derive(Clone, Copy)]
 pub struct Place {
     pub latitude: f64,
     pub longitude: f64,
@@ -11,7 +11,7 @@ pub struct Place {
 }
 
 // A place as a frame's field values: tenths of a degree with their flags, and kilometres.
-#[derive(Drop)]
+#[derive(Clone, Copy)]
 pub struct Fields {
     // 1 for south
     pub south: u64,
@@ -23,21 +23,21 @@ pub struct Fields {
 }
 
 // What the desk's place becomes.
-#[derive(Drop)]
+#[derive(Clone, Copy)]
 pub enum Conversion {
     Converted(Fields),
     Refused(u8),
 }
 
 // The field value that a double is the image of.
-#[derive(Drop)]
+#[derive(Clone, Copy)]
 pub enum Value {
     Of(u64),
     Missing,
 }
 
 // The same with the flag for south or west.
-#[derive(Drop)]
+#[derive(Clone, Copy)]
 pub enum Signed {
     At { flag: u64, tenths: u64 },
     Nowhere,

@@ -1,12 +1,13 @@
 // What a record reports, by the edition named.
 #![tactic(auto)]
+
 ghost use Rattle.std.specs.Prelude.{◌≡◌};
 ghost use Rattle.report.specs.Report.{reported_by, report_of};
 
 use frame::{Body, Edition, Record};
 
 // A place with its three doubles, a cancellation, areas only, nothing, area safety information, which has no data, or the writer's refusal of the record.
-#[derive(Drop)]
+#[derive(Clone, Copy)]
 pub enum Reported {
     Place {
         latitude: f64,

@@ -6,7 +6,7 @@ ghost use Rattle.bits.specs.Bits.{bits_of};
 ghost use Rattle.sync_pattern.specs.Pattern.{pattern_word, differing_from, sync_of};
 
 // What 16 bits are as synchronising bits.
-#[derive(Drop)]
+#[derive(Clone, Copy)]
 pub enum Sync {
     // they fit a pattern, 0 or 1: in so many bits they differ from it
     Fits(u64, u8),

@@ -1,5 +1,4 @@
 -- `crc_tables::table0` meets its contract: its code is that of `entries g32 0`, which antt computes. Assumes nothing.
-use contract.Running
 use borrow.Fn.Run
 use borrow.Fn.World.{World}
 use borrow.Fn.Written
@@ -16,11 +15,11 @@ use Rattle.crc_tables.specs.contracts.table0.Key as key
 use Rattle.crc_tables.proofs.table0.Kinds as kinds
 use Rattle.crc_tables.proofs.table0.Reads as reads
 
-pub table0-spec : {M : Type 1} → statement M
-unfolding entries sums powers remainder_of check_bits remainder add scale bits_of odd value digit code.routine Running.tables_of
-table0-spec {M} 𝓤 𝓛 𝓜 𝓡 =
+pub table0_spec : {M : Type 1} → statement M
+unfolding entries sums powers remainder_of check_bits remainder add scale bits_of odd value digit
+table0_spec {M} 𝓤 𝓛 𝓜 𝓡 wired =
     let w : World = record { M = M; 𝓤 = 𝓤; 𝓛 = 𝓛; 𝓜 = 𝓜; 𝓡 = 𝓡 } in
-    Written.close 0 kinds.ps kinds.r reads.Ghost reads.requires reads.ensures reads.pre_read reads.Pinned reads.Owned reads.post_read w code.env key.name
-    code.function (code.unfolded 𝓤 𝓛.H 𝓜 𝓡) (λ κs a g. tt) (λ κs. reads.owns κs w) (reads.passes w)
+    Written.close 0 kinds.ps kinds.r reads.Ghost reads.requires reads.ensures reads.pre_read reads.Pinned reads.Owned reads.post_read w 𝓡.env key.name
+    code.function (code.unfolded 𝓤 𝓛.H 𝓜 𝓡 wired) (λ κs a g. tt) (λ κs. reads.owns κs w) (reads.passes w)
     λ g. lookup-meets reads.Pre reads.Post (entries g32 0) (length-entries g32 0) (entry-fits g32 0 narrow32) (λ a h p. entry g32 0 a.0 h) 𝓛
-    (Run.Over 𝓛 𝓜 𝓡 code.env)
+    (Run.Over 𝓛 𝓜 𝓡 𝓡.env)

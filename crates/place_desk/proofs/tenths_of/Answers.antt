@@ -7,12 +7,12 @@ use Rattle.place_desk.proofs.tenths_of.Goals as goal
 
 pub returns-then-limit-n : goal.returns-then-limit-n
 returns-then-limit-n c =
-    beyond (tenths-inverse _ c.requires _) _ (passes c.well-formed.1.1.0.1) _ c.tenths_near-n.ensures c.if-limit-n.true
+    beyond (tenths-inverse _ c.requires _) _ (passes c.well_formed.1.1.0.1) _ c.tenths_near-n.ensures c.if-limit-n.true
 
 pub returns-then-same_bits : goal.returns-then-same_bits
 returns-then-same_bits c =
-    alike (tenths-inverse _ c.requires _) _ (passes c.well-formed.1.1.0.1) _ c.tenths_near-n.ensures c.degrees.ensures c.same_bits.ensures c.if-same_bits.true (omega arith)
+    alike (tenths-inverse _ c.requires _) _ (passes c.well_formed.1.1.0.1) _ c.tenths_near-n.ensures c.degrees.ensures c.same_bits.ensures c.if-same_bits.true (omega arith)
 
 pub returns : goal.returns
 returns c =
-    unlike (tenths-inverse _ c.requires _) _ (passes c.well-formed.1.1.0.1) _ c.tenths_near-n.ensures c.degrees.ensures c.same_bits.ensures c.if-same_bits.false
+    unlike (tenths-inverse _ c.requires _) _ (passes c.well_formed.1.1.0.1) _ c.tenths_near-n.ensures c.degrees.ensures c.same_bits.ensures c.if-same_bits.false

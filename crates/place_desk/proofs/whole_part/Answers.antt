@@ -7,7 +7,7 @@ use Rattle.place_desk.proofs.whole_part.Goals as goal
 
 pub truncating_f64_to_u64-requires : goal.truncating_f64_to_u64-requires
 unfolding of_bits neg
-truncating_f64_to_u64-requires c = (passes c.if-x.true, passes c.if-x-2.true)
+truncating_f64_to_u64-requires c = record { lower_bound = passes c.if-x.true; upper_bound = passes c.if-x-2.true }
 
 pub returns-then-x-2 : goal.returns-then-x-2
 unfolding of_bits neg

@@ -6,7 +6,7 @@ pub bounds-out-i : goal.bounds-out-i
 bounds-out-i c = c.requires.1 c.if-kind-eq0.true
 
 pub returns-then-kind-eq0 : goal.returns-then-kind-eq0
-returns-then-kind-eq0 c = (simp (eq-eqb _ _ c.if-kind-eq0.true), simp (eq-eqb _ _ c.if-kind-eq0.true))
+returns-then-kind-eq0 c = record { place = simp (eq-eqb _ _ c.if-kind-eq0.true); stored = simp (eq-eqb _ _ c.if-kind-eq0.true) }
 
 pub returns : goal.returns
-returns c = (simp (ne_eqb _ _ c.if-kind-eq0.false), simp (ne_eqb _ _ c.if-kind-eq0.false))
+returns c = record { place = simp (ne_eqb _ _ c.if-kind-eq0.false); stored = simp (ne_eqb _ _ c.if-kind-eq0.false) }

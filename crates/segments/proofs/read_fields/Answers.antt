@@ -44,9 +44,9 @@ loop-j-preserved c =
     (within-room (length s) c.loop-j.at w (omega (arith, c.requires.0.narrow c.loop-j.j)) (omega (arith, sum-next ws c.loop-j.j h, c.requires.0.room))) in (
       omega arith,
       ap (λ (m : ℕ). m + w) c.loop-j.invariant.1 ∙ sym (sum-take ws c.loop-j.j h),
-      c.keep-i.auto.v.1.0 ∙ c.loop-j.invariant.2,
-      read-turn ks ws _ c.loop-j.out _ (bits s) c.loop-j.at c.loop-j.i _ c.loop-j.j c.requires.1 h c.keep-i.ensures.0
-          (c.keep-i.ensures.1 ∙ ap (λ (x : ℕ). stored k x c.loop-j.i c.loop-j.out) v) c.loop-j.invariant.3,
+      c.keep-i.auto.out ∙ c.loop-j.invariant.2,
+      read-turn ks ws _ c.loop-j.out _ (bits s) c.loop-j.at c.loop-j.i _ c.loop-j.j c.requires.1 h c.keep-i.ensures.place
+          (c.keep-i.ensures.stored ∙ ap (λ (x : ℕ). stored k x c.loop-j.i c.loop-j.out) v) c.loop-j.invariant.3,
       fixed-turn ks ws (bits s) c.loop-j.at c.loop-j.j _ c.loop-j.fixed _ c.segment_holds.result c.requires.1 h
           (c.segment_holds.ensures ∙ ap (holds (segment k w)) v) c.both-fixed.ensures c.loop-j.invariant.4,
     )
@@ -59,4 +59,4 @@ returns c =
     let ks = c.args.kinds.now in
     let ws = c.args.ws.now in
     let e : c.loop-j.j ≡ length ws = omega arith in
-    (fixed-end ks ws _ c.loop-j.j _ c.loop-j.fixed c.requires.1 e c.loop-j.invariant.4, read-end ks ws _ c.loop-j.out _ c.loop-j.i c.loop-j.j c.requires.1 e c.loop-j.invariant.3)
+    record { fixed = fixed-end ks ws _ c.loop-j.j _ c.loop-j.fixed c.requires.1 e c.loop-j.invariant.4; values = read-end ks ws _ c.loop-j.out _ c.loop-j.i c.loop-j.j c.requires.1 e c.loop-j.invariant.3 }

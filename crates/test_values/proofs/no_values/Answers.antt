@@ -3,4 +3,4 @@ use mathlib.Core.Path.{refl}
 use Rattle.test_values.proofs.no_values.Goals as goal
 
 pub returns : goal.returns
-returns c = (refl, refl)
+returns c = record { value = refl; value_2 = refl }
