@@ -1,7 +1,8 @@
 // Reading the input of the programs.
 #![tactic(auto)]
 
-ghost use Rattle.std.specs.Prelude.{◌≤◌, length, IfOk};
+ghost use Rattle.std.specs.Prelude.{◌≤◌, length, take, IfOk};
+ghost use Rattle.input_io.specs.Reading.{Takes};
 
 use std::io;
 use std::io::Read;
@@ -10,7 +11,8 @@ use std::io::Read;
 // wants more than their buffer holds. Where a read fails, so does this, and what the buffer then holds is not to be used.
 pub fn read<R: Read>(wanted: usize, input: &mut [u8], from: &mut R) -> io::Result<usize>
     requires { wanted ≤ length input.old }
-    ensures { IfOk result (λ n. n ≤ wanted) }
+    ensures count { IfOk result (λ n. n ≤ wanted) }
+    ensures bytes { IfOk result (λ n. Takes (R.remaining from.old) (R.remaining from.new) wanted (take n input.new)) }
 {
     let mut done = 0;
     while done < wanted {

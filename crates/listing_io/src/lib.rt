@@ -2,8 +2,10 @@
 // written, are proved in `listing_turns` and `listing_pieces`; here is only the reading and writing, 65,520 bytes at a time, so that the system is asked
 // seldom.
 #![tactic(auto)]
-ghost use Rattle.std.specs.Prelude.{◌≡◌, ◌≤◌, length, IfOk};
-ghost use Rattle.listing_io.specs.Reading.{TurnMade};
+ghost use Rattle.std.specs.Prelude.{◌≡◌, ◌≤◌, length, take, IfOk, OnOk, IfSome};
+ghost use Rattle.std.specs.Io.KnownBytes.{Appends};
+ghost use Rattle.listing.specs.Lines.{listing_of};
+ghost use Rattle.listing_io.specs.Reading.{TurnMade, Follows};
 
 use frame::Edition;
 use listing::Pieces;
@@ -36,7 +38,9 @@ fn next<R: Read, W: Write>(
     to: &mut W,
 ) -> io::Result<Turn>
     requires { before.wanted ≤ length input.old }
-    ensures { IfOk result (λ turn. TurnMade edition pieces before input.new out.old out.new turn) }
+    ensures made { IfOk result (λ turn. TurnMade edition pieces before input.new out.old out.new turn) }
+    ensures follows { IfOk result (λ turn. Follows edition pieces before (R.remaining from.old) (R.remaining from.new) out.old out.new turn) }
+    ensures text { IfOk result (λ turn. Appends (W.contents to.old) (W.contents to.new) (take turn.written out.new)) }
 {
     let got = input_io::read(before.wanted, input, from)?;
     let turn = listing_pieces::list_piece(edition, pieces, before.listed, &input[..got], out);
@@ -45,8 +49,15 @@ fn next<R: Read, W: Write>(
     Ok(turn)
 }
 
-// The listing: turns, while something is wanted.
-pub fn run<R: Read, W: Write>(edition: Edition, pieces: Pieces, from: &mut R, to: &mut W) -> io::Result<()> {
+// The listing: turns, while something is wanted. Where the reader's bytes are known, what is written is the listing of them all.
+pub fn run<R: Read, W: Write>(
+    edition: Edition,
+    pieces: Pieces,
+    from: &mut R,
+    to: &mut W,
+) -> io::Result<()>
+    ensures { OnOk result (IfSome (R.remaining from.old) (λ s. Appends (W.contents to.old) (W.contents to.new) (listing_of edition pieces s))) }
+{
     let mut input = input_buffer();
     let mut out = text_buffer();
     let mut turn = listing_turns::start();
