@@ -8,11 +8,12 @@ archive := target/staticlib/libgvozdyana.a
 
 .PHONY: archive install uninstall
 
-# What is proved already is not proved again: 20 seconds then, some five minutes from nothing on two cores.
+# What is proved already is not proved again.
 archive:
-	@mkdir -p target/log
+	@mkdir -p target/log target/staticlib
 	@echo "proving and building $(archive); the prover's output is in target/log/make.log"
-	@rt staticlib gvozdyana >target/log/make.log 2>&1 || { tail -n 20 target/log/make.log; exit 1; }
+	@(cd crates/gvozdyana && rt lib) >target/log/make.log 2>&1 || { tail -n 20 target/log/make.log; exit 1; }
+	@cp crates/gvozdyana/out/libgvozdyana.a $(archive)
 
 install: archive
 	install -d "$(DESTDIR)$(libdir)/pkgconfig" "$(DESTDIR)$(includedir)"

@@ -3,7 +3,7 @@
 
 usage: tools/respell.py [FOLDER]
 
-Run once in FOLDER (by default the repository's top), right after /opt/rattle/port/port.py. A name of specs/ or proofs/ is made of parts that a
+Run once in FOLDER (by default the repository's top), right after the kit's port.py. A name of specs/ or proofs/ is made of parts that a
 dash joins; each part that is a word in lower camel case becomes snake case, so that `firstRefusal` is `first_refusal`
 and `length-fieldWidths` is `length-field_widths`. Types, modules and facts keep upper camel case. A few names that
 port.py left neither old nor new have a line of their own below. Functions, fields and types of src/ keep their names.

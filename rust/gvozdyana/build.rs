@@ -19,7 +19,7 @@ fn main() {
     println!("cargo:rerun-if-changed={}", archive.display());
     if !archive.is_file() {
         refuse(&format!(
-            "{} is missing: build it with `rt staticlib gvozdyana` at the repository's root, or name the folder where it stands in {VARIABLE}",
+            "{} is missing: build it with `make archive` at the repository's root, or name the folder where it stands in {VARIABLE}",
             archive.display()
         ));
     }

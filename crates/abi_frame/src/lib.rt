@@ -1,6 +1,7 @@
 // Frames over plain numbers and slices, as a C program can call them: the edition and the tuner are named by their
 // numbers, and a record is its values in their order.
 #![tactic(auto)]
+
 ghost use Rattle.std.specs.Prelude.{◌≡◌, ◌*◌, length};
 ghost use Rattle.dsc.specs.Marks.{unmarked};
 ghost use Rattle.abi_record.specs.Values.{value_count};

@@ -1,5 +1,6 @@
 // Headers over plain numbers and slices, as a C program can call them: a header is its 145 fields in their order.
 #![tactic(auto)]
+
 ghost use Rattle.std.specs.Prelude.{◌≡◌, length};
 ghost use Rattle.abi_header.specs.Header.{header_values, header_from, header_read_status, header_read_values, header_write_status, header_write_bytes};
 

@@ -1,5 +1,6 @@
 // A frame laid into a header and taken out of it, as a C program can call them: the edition is named by its number.
 #![tactic(auto)]
+
 ghost use Rattle.std.specs.Prelude.{◌≡◌};
 ghost use Rattle.dsc.specs.Marks.{unmarked, marked};
 ghost use Rattle.header_laying.specs.Laying.{lay_in_of, take_out_of};

@@ -1,5 +1,6 @@
 // The day's ledger over plain numbers and slices, as a C program can call it: a ledger is its 12 numbers in the order of the report.
 #![tactic(auto)]
+
 ghost use Rattle.std.specs.Prelude.{◌≡◌, length};
 ghost use Rattle.abi_edition.specs.Edition.{edition_of};
 ghost use Rattle.abi_ledger.specs.Ledger.{answer_status, answer_numbers, count_status, count_numbers, length_status, print_status, print_text, parse_status, parse_numbers};

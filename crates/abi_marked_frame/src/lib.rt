@@ -1,5 +1,6 @@
 // Frames with doubtful marks over plain numbers and slices, as a C program can call them.
 #![tactic(auto)]
+
 ghost use Rattle.std.specs.Prelude.{◌≡◌, ◌+◌, ◌*◌};
 ghost use Rattle.dsc.specs.Marks.{marked};
 ghost use Rattle.abi.specs.Status.{status_of};

@@ -1,5 +1,6 @@
 // Places over plain numbers and slices, as a C program can call them: the edition is named by its number.
 #![tactic(auto)]
+
 ghost use Rattle.std.specs.Prelude.{◌≡◌};
 ghost use Rattle.abi_edition.specs.Edition.{edition_of};
 ghost use Rattle.abi_place.specs.Place.{report_status, report_place, desk_status, desk_fields};

@@ -1,5 +1,6 @@
 // The follower and the captures over plain numbers and slices, as a C program can call them: the edition is named by its number.
 #![tactic(auto)]
+
 ghost use Rattle.std.specs.Prelude.{◌≡◌, ◌<◌};
 ghost use Rattle.follower.specs.Follow.{event_number};
 ghost use Rattle.abi.specs.Status.{status_of};

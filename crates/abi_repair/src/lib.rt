@@ -1,6 +1,7 @@
 // The repair asked for alone, over plain numbers and slices, as a C program can call it: by the shipped engine, by the second one,
 // and with doubtful marks.
 #![tactic(auto)]
+
 ghost use Rattle.std.specs.Prelude.{◌≡◌, length};
 ghost use Rattle.dsc.specs.Marks.{unmarked, marked};
 ghost use Rattle.dsc.specs.Repair.{outcome_number, outcome_places, left_in};
@@ -31,7 +32,7 @@ fn put_answer(answer: Answer, word: &mut [u8])
     match outcome {
         Outcome::Repaired(_) => {
             let repaired = answer.word;
-            bytes::copy(&repaired, word);
+            word.copy_from_slice(&repaired);
         }
         Outcome::Refused(_) => {}
     }

@@ -1,5 +1,6 @@
 // Two tuners, by the edition named, each with a capture: frames end to end, frame n at byte 26n.
 #![tactic(auto)]
+
 ghost use Rattle.std.specs.Prelude.{◌≡◌, ◌+◌, ◌*◌, ◌≤◌, length};
 ghost use Rattle.capture.specs.Capture.{part_at, position_at, number_at, numbers_of, source_of, bytes_from, position_from};
 

@@ -1,5 +1,6 @@
 // Frame n of two captures, read by the edition named: the two tuners and the reader together. The record says which tuner it came from.
 #![tactic(auto)]
+
 ghost use Rattle.std.specs.Prelude.{◌≡◌};
 ghost use Rattle.capture_reader.specs.CaptureRead.{reading_at, capture_read_of};
 

@@ -1,9 +1,9 @@
 -- The answer to a frame with marks, by cases; and what it shares with demand 3's answer to a frame without. Assumes nothing.
 use mathlib.Core.Path.{◌≡◌, refl, sym, ap, ap₂, ◌∙◌, subst}
 use mathlib.Core.Bool.{Bool, true, false, true≢false, cond, ◌&&◌}
-use mathlib.Core.Logic.{◌≢◌, ◌⊎◌, inl, inr}
+use mathlib.Core.Logic.{◌≢◌}
 use mathlib.Core.List.{List, [], ◌∷◌}
-use Prim.Native.Nat.{ℕ, ◌+◌, ◌*◌, ◌≤◌}
+use Prim.Native.Nat.{ℕ}
 use native.Mathlib.Omega.{arith}
 use lib.Dec.{eqb}
 use lib.ListN.{length}
@@ -11,14 +11,13 @@ use borrow.Author.Tests.{eq-eqb, ne_eqb, eqb-true, eqb-false}
 use Rattle.gf2.specs.Polynomial.{◌⊕◌, add, zeros}
 use Rattle.gf2.proofs.Sum.{add_assoc, add_same, add-to-zeros}
 use Rattle.dsc.specs.Code.{CodeWord, weight, dist}
-use Rattle.dsc.specs.Repair.{protected, word_bytes, Decoded, corrected, beyond, repaired_to, refused_with, number_of, repair_of}
+use Rattle.dsc.specs.Repair.{protected, Decoded, corrected, beyond, repaired_to, refused_with}
 use Rattle.dsc.specs.Marks.{MarksSized, filled, unmarked_in, unmarked_dist, Few, decode_marked, marked_answer, marked_repair_of, Marking, unmarked, marked, repair_by, whole, hits_by, FewBy}
 use Rattle.dsc.specs.declared.Answer.{Answer}
 use Rattle.dsc.proofs.Word.{length-word}
-use Rattle.dsc.proofs.Weight.{weight-zeros}
 use Rattle.dsc.proofs.Decoding.{Nearest, nearest}
 use Rattle.dsc.proofs.Decoding as plain
-use Rattle.dsc.proofs.Answers.{length-protected, length-word_bytes, repair-found, repair-none, answered, repair-short}
+use Rattle.dsc.proofs.Answers.{length-protected, repair-found, repair-none, repair-short}
 use Rattle.dsc.proofs.MarkedDecoding.{marked-found, marked-none, MarkedNearest, one, none, marked-nearest, filled_none}
 
 -- ---- what stands under the marks

@@ -1,5 +1,6 @@
 // A frame followed, by the edition named: it is read, and what it shows moves the follower.
 #![tactic(auto)]
+
 ghost use Rattle.std.specs.Prelude.{◌≡◌};
 ghost use Rattle.follower.specs.Follow.{step_of};
 

@@ -1,5 +1,6 @@
 // Reading a frame that comes with doubtful marks (document 02, d): the tests of `frame_reader`, with the repair with marks in the place of the plain one.
 #![tactic(auto)]
+
 ghost use Rattle.std.specs.Prelude.{◌≡◌};
 ghost use Rattle.dsc.specs.Marks.{marked};
 ghost use Rattle.frame.specs.Read.{read_by, judge_by, cleaned_by};

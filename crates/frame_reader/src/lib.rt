@@ -1,5 +1,6 @@
 // Reading a frame by the edition named: the tests in their order, and the record, with the tuner that the reader is told.
 #![tactic(auto)]
+
 ghost use Rattle.std.specs.Prelude.{◌≡◌};
 ghost use Rattle.dsc.specs.Marks.{unmarked};
 ghost use Rattle.frame.specs.Read.{reading_verdict, read_of, judge_of, cleaned_of};

@@ -1,5 +1,6 @@
 // The tests of a frame: those before the repair, and those of the repaired frame, by the edition named.
 #![tactic(auto)]
+
 ghost use Rattle.std.specs.Prelude.{◌≡◌, not, eqb, length, take, drop};
 ghost use Rattle.bits.specs.Bits.{bits};
 ghost use Rattle.bits.specs.Field.{field_at};

@@ -1,5 +1,6 @@
 // The writer: the frame of a record, by the edition named.
 #![tactic(auto)]
+
 ghost use Rattle.std.specs.Prelude.{◌≡◌, ◌++◌, ◌≤◌, length, drop};
 ghost use Rattle.bits.specs.Bits.{bits};
 ghost use Rattle.frame.specs.Identification.{start_end_of, update_of};

@@ -6,6 +6,7 @@
 // field buffer whose length is wrong is refusal 1, before anything else is looked at, and a refusal leaves every lent buffer as it was. The definitions
 // stand in the specs/ of the crates that are called.
 #![tactic(auto)]
+
 ghost use Rattle.std.specs.Prelude.{◌≡◌};
 ghost use Rattle.dsc.specs.Marks.{unmarked, marked};
 ghost use Rattle.abi_edition.specs.Edition.{edition_of};

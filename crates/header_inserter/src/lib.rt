@@ -1,5 +1,6 @@
 // Laying a frame into a header, by the edition named, with doubtful marks or without, and taking it out. The rules are those of `header_laying`.
 #![tactic(auto)]
+
 ghost use Rattle.std.specs.Prelude.{◌≡◌, length};
 ghost use Rattle.bits.specs.Bits.{bits};
 ghost use Rattle.bits.specs.Layout.{pack, unpack};

@@ -1,5 +1,6 @@
 // Whether the record of a header is legal: its own refusals, 10, 12, 14 and 15, which the writer gives.
 #![tactic(auto)]
+
 ghost use Rattle.std.specs.Prelude.{◌≡◌};
 ghost use Rattle.header.specs.Tests.{too_wide};
 ghost use Rattle.header.specs.Header.{record_refusal};

@@ -1,5 +1,6 @@
 // Reading a header: the tests in their order, and the header.
 #![tactic(auto)]
+
 ghost use Rattle.std.specs.Prelude.{◌≡◌, length};
 ghost use Rattle.header.specs.Tests.{crc_wrong};
 ghost use Rattle.header.specs.Header.{no_header, header_refusal, header_read_of};

@@ -1,5 +1,6 @@
 // Writing a header: the bytes of a record.
 #![tactic(auto)]
+
 ghost use Rattle.std.specs.Prelude.{◌≡◌, length, take, drop, ◌++◌};
 ghost use Rattle.bits.specs.Bits.{bytes};
 ghost use Rattle.bits.specs.Segment.{pack_segments};

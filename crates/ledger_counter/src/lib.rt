@@ -1,5 +1,6 @@
 // Counting frames into a ledger: one frame, the frames of an input, and a turn of the program.
 #![tactic(auto)]
+
 ghost use Rattle.std.specs.Prelude.{◌≡◌};
 ghost use Rattle.ledger.specs.Counting.{count_of, counted_in};
 ghost use Rattle.ledger_input.specs.Input.{all_frames, turn_after};

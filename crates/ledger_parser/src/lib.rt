@@ -1,5 +1,6 @@
 // The reader of a printed report, strictly from the front: a line for each label, and nothing behind the last.
 #![tactic(auto)]
+
 ghost use Rattle.std.specs.Prelude.{◌≡◌, cond, [], ◌<◌, length, get_or};
 ghost use Rattle.std.proofs.Math.Option.{none, some};
 ghost use Rattle.ledger.specs.Report.{labels, line_at, numbers_in, not_report, parse_of};

@@ -1,5 +1,6 @@
 // The printed report of a ledger: how many bytes it has, and its text.
 #![tactic(auto)]
+
 ghost use Rattle.std.specs.Prelude.{◌≡◌, [], ◌+◌, ◌≤◌, ◌<◌, length, get_or};
 ghost use Rattle.decimals.specs.Put.{Put};
 ghost use Rattle.ledger.specs.Report.{labels, labelled_line, labelled_lines, length_number, length_of, print_number, print_of};

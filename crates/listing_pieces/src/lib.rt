@@ -1,5 +1,6 @@
 // A turn of the listing, by the edition named and by what the input is made of: a part of the input as lines.
 #![tactic(auto)]
+
 ghost use Rattle.std.specs.Prelude.{◌≡◌, length};
 ghost use Rattle.listing_turns.specs.Turns.{turn_of, buffer_after};
 

@@ -1,5 +1,6 @@
 // The verdict of a piece of the input, by the edition named and by what the input is made of.
 #![tactic(auto)]
+
 ghost use Rattle.std.specs.Prelude.{◌≡◌};
 ghost use Rattle.listing.specs.Lines.{verdict_of};
 

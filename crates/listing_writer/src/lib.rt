@@ -1,5 +1,6 @@
 // The listing of an input, by the edition named and by what the input is made of: a line of text for each piece.
 #![tactic(auto)]
+
 ghost use Rattle.std.specs.Prelude.{◌≡◌, length};
 ghost use Rattle.listing.specs.Lines.{list_count, list_of};
 

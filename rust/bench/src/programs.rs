@@ -37,7 +37,7 @@ impl Input {
             .stdin(input)
             .stdout(Stdio::null())
             .status()
-            .expect("the program: rt check builds it");
+            .expect("the program: .ci/outside builds it");
         assert!(status.success());
         start.elapsed().as_nanos() as f64
     }

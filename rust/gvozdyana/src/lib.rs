@@ -2,7 +2,7 @@
 //! It computes nothing itself but the bits of [`frame::Record::for_areas`], the comparison of [`frame::Record::same_fields`] and the part of a capture
 //! in [`capture::frame_at`].
 //!
-//! The functions stand in the archive `libgvozdyana.a`, which `rt staticlib gvozdyana` makes. It is looked for in the folder that the environment
+//! The functions stand in the archive `libgvozdyana.a`, which `make archive` builds. It is looked for in the folder that the environment
 //! variable `GVOZDYANA_LIB_DIR` names by its whole path, else in the repository's `target/staticlib`.
 //!
 //! ```

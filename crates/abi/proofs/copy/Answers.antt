@@ -1,9 +1,8 @@
 -- `abi::copy` meets its contract. Assumes nothing.
-use mathlib.Core.Path.{◌≡◌, ◌∙◌, ap, refl}
-use mathlib.Core.List.{◌++◌}
-use Prim.Native.Nat.{◌-◌, ◌≤◌}
+use mathlib.Core.Path.{◌∙◌, ap, refl}
+use Prim.Native.Nat.{◌-◌}
 use native.Mathlib.Omega.{arith}
-use lib.ListN.{length, get_or, take, drop, set, length-set}
+use lib.ListN.{get_or, set, length-set}
 use Rattle.abi.proofs.Copied.{copied_next, copied_all}
 use Rattle.abi.proofs.copy.Goals as goal
 

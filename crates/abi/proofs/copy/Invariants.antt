@@ -1,9 +1,7 @@
-use mathlib.Core.Path.{◌≡◌, ◌∙◌, ap, refl}
+use mathlib.Core.Path.{◌≡◌}
 use mathlib.Core.List.{◌++◌}
 use Prim.Native.Nat.{◌-◌, ◌≤◌}
-use native.Mathlib.Omega.{arith}
-use lib.ListN.{length, get_or, take, drop, set, length-set}
-use Rattle.abi.proofs.Copied.{copied_next, copied_all}
+use lib.ListN.{length, take, drop}
 use Rattle.abi.proofs.copy.Given as goal
 
 -- `abi::copy` meets its contract. Assumes nothing.

@@ -1,13 +1,6 @@
-use mathlib.Core.Path.{◌≡◌, ◌∙◌, ap, sym, refl}
-use mathlib.Core.List.{[]}
-use Prim.Native.Nat.{ℕ, ◌+◌, ◌-◌, ◌*◌, ◌/◌, ◌%◌, ◌^◌, ◌≤◌, ◌<◌}
-use native.Mathlib.Omega.{arith}
-use lib.Pow.{pow_mono, shl_exact}
-use lib.ListN.{drop}
-use Rattle.bits.specs.Bits.{value, bits}
+use mathlib.Core.Path.{◌≡◌}
+use Prim.Native.Nat.{◌-◌, ◌≤◌}
 use Rattle.bits.specs.Field.{field_at}
-use Rattle.bits.proofs.Bits.{value-take-lt}
-use Rattle.bits.proofs.Field.{field-add}
 use Rattle.bit_fields.proofs.read_field.Given as goal
 
 abbrev pub invariant-loop-i : goal.invariant-loop-i

@@ -1,11 +1,8 @@
-use mathlib.Core.Path.{◌≡◌, ◌∙◌, ap, refl}
-use Prim.Native.Nat.{ℕ, ◌+◌, ◌-◌, ◌*◌, ◌/◌, ◌%◌, ◌≤◌}
-use native.Mathlib.Omega.{arith}
+use mathlib.Core.Path.{◌≡◌}
+use Prim.Native.Nat.{◌-◌, ◌≤◌}
 use lib.ListN.{length}
-use lib.Seq.{paste, paste-zero}
+use lib.Seq.{paste}
 use Rattle.bits.specs.Bits.{bits, bits_of}
-use Rattle.bits.proofs.Bits.{length-bits}
-use Rattle.bits.proofs.Field.{put_bits-add}
 use Rattle.bit_fields.proofs.write_field.Given as goal
 
 abbrev pub invariant-loop-i : goal.invariant-loop-i

@@ -1,13 +1,7 @@
-use mathlib.Core.Path.{◌≡◌, ◌∙◌, ap, ap₂, sym, refl}
-use mathlib.Core.Bool.{true, false}
-use mathlib.Core.List.{List}
-use Prim.Native.Nat.{ℕ, ◌-◌, ◌≤◌}
-use native.Mathlib.Omega.{arith}
-use borrow.Author.Tests.{not-true, not-false}
+use mathlib.Core.Path.{◌≡◌}
+use Prim.Native.Nat.{◌-◌, ◌≤◌}
 use lib.ListN.{length, drop}
-use lib.Seq.{drop-length}
 use Rattle.bits.specs.Layout.{fitb}
-use Rattle.bits.proofs.Layouts.{fitb-length, fitb-next}
 use Rattle.bit_layouts.proofs.fits_all.Given as goal
 
 abbrev pub invariant-loop-j : goal.invariant-loop-j

@@ -1,12 +1,9 @@
-use mathlib.Core.Path.{◌≡◌, ◌∙◌, ap, ap₂, sym, refl}
-use mathlib.Core.List.{List, ◌++◌, append-nil}
-use Prim.Native.Nat.{ℕ, ◌+◌, ◌-◌, ◌≤◌, ◌<◌}
-use native.Mathlib.Omega.{arith}
-use lib.ListN.{length, get_or, take, drop, set, length-set}
-use lib.Seq.{take-length, drop-length}
+use mathlib.Core.Path.{◌≡◌}
+use mathlib.Core.List.{◌++◌}
+use Prim.Native.Nat.{◌+◌, ◌-◌, ◌≤◌}
+use lib.ListN.{length, take, drop}
 use Rattle.bits.specs.Layout.{unpack, sum}
-use Rattle.bits.specs.Bits.{bits, value}
-use Rattle.bits.proofs.Layouts.{unpack-next, sum-take, sum-next}
+use Rattle.bits.specs.Bits.{bits}
 use Rattle.bit_layouts.proofs.read_all.Given as goal
 
 abbrev pub invariant-loop-j : goal.invariant-loop-j

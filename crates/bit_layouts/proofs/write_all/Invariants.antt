@@ -1,14 +1,9 @@
-use mathlib.Core.Path.{◌≡◌, ◌∙◌, ap, ap₂, sym, refl}
-use mathlib.Core.Bool.{Bool}
-use mathlib.Core.List.{List, ◌++◌}
-use Prim.Native.Nat.{ℕ, ◌+◌, ◌-◌, ◌≤◌, ◌<◌}
-use native.Mathlib.Omega.{arith}
-use lib.ListN.{length, get_or, take, drop}
-use lib.Seq.{take-length, paste}
+use mathlib.Core.Path.{◌≡◌}
+use mathlib.Core.List.{◌++◌}
+use Prim.Native.Nat.{◌+◌, ◌-◌, ◌≤◌}
+use lib.ListN.{length, take, drop}
 use Rattle.bits.specs.Layout.{pack, sum}
-use Rattle.bits.specs.Bits.{bits, bits_of}
-use Rattle.bits.proofs.Layouts.{pack-next, sum-take, sum-next}
-use Rattle.bits.proofs.Bits.{length-bits}
+use Rattle.bits.specs.Bits.{bits}
 use Rattle.bit_layouts.proofs.write_all.Given as goal
 
 abbrev pub invariant-loop-j : goal.invariant-loop-j

@@ -1,9 +1,9 @@
 -- `decimals::digit_count` meets its contract. Assumes nothing.
-use mathlib.Core.Path.{◌≡◌, ap}
-use Prim.Native.Nat.{ℕ, ◌+◌, ◌<◌}
+use mathlib.Core.Path.{ap}
+use Prim.Native.Nat.{ℕ}
 use native.Mathlib.Omega.{arith}
 use lib.ListN.{length}
-use Rattle.decimals.specs.Decimal.{decimal, leading}
+use Rattle.decimals.specs.Decimal.{leading}
 use Rattle.decimals.proofs.Decimals.{leading-none, length-word, length_last, length-leading}
 use Rattle.decimals.proofs.digit_count.Goals as goal
 

@@ -1,9 +1,7 @@
-use mathlib.Core.Path.{◌≡◌, ap}
-use Prim.Native.Nat.{ℕ, ◌+◌, ◌<◌}
-use native.Mathlib.Omega.{arith}
+use mathlib.Core.Path.{◌≡◌}
+use Prim.Native.Nat.{◌+◌, ◌<◌}
 use lib.ListN.{length}
 use Rattle.decimals.specs.Decimal.{decimal, leading}
-use Rattle.decimals.proofs.Decimals.{leading-none, length-word, length_last, length-leading}
 use Rattle.decimals.proofs.digit_count.Given as goal
 
 -- `decimals::digit_count` meets its contract. Assumes nothing.

@@ -1,7 +1,7 @@
 -- `decimals::put_leading` meets its contract. Assumes nothing.
 use Prim.Native.Nat.{◌<◌}
 use native.Mathlib.Omega.{arith}
-use Rattle.decimals.proofs.Written.{Written, written_none, written-room, written-length, written_next, written_all}
+use Rattle.decimals.proofs.Written.{written_none, written-room, written-length, written_next, written_all}
 use Rattle.decimals.proofs.put_leading.Goals as goal
 use Rattle.decimals.proofs.put_leading.Goals.{In-loop-rest}
 

@@ -1,6 +1,4 @@
-use Prim.Native.Nat.{◌<◌}
-use native.Mathlib.Omega.{arith}
-use Rattle.decimals.proofs.Written.{Written, written_none, written-room, written-length, written_next, written_all}
+use Rattle.decimals.proofs.Written.{Written}
 use Rattle.decimals.proofs.put_leading.Given as goal
 
 -- `decimals::put_leading` meets its contract. Assumes nothing.

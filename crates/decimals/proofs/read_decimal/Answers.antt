@@ -1,7 +1,6 @@
 -- `decimals::read_decimal` meets its contract. Assumes nothing.
 use mathlib.Core.Path.{sym, ◌∙◌}
 use native.Mathlib.Omega.{arith}
-use borrow.Author.Tests.{not-true, not-false}
 use Rattle.decimals.proofs.Readings.{digit-bounds, decimal-none, decimal-zero, decimal-other, decimal-first}
 use Rattle.decimals.proofs.read_decimal.Goals as goal
 

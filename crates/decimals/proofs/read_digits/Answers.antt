@@ -3,10 +3,10 @@ use mathlib.Core.Path.{◌≡◌, sym, ◌∙◌}
 use mathlib.Core.Bool.{true}
 use Prim.Native.Nat.{◌+◌, ◌-◌, ◌*◌, ◌<◌}
 use native.Mathlib.Omega.{arith}
-use lib.ListN.{length, get_or}
-use borrow.Author.Tests.{ltb-true, ltb-false, not-true, not-false}
+use lib.ListN.{get_or}
+use borrow.Author.Tests.{ltb-true, ltb-false}
 use Rattle.decimals.specs.Reading.{is_digit}
-use Rattle.decimals.proofs.Readings.{DigitsRead, digits-first, digits-one-more, digits-no-room, digits-before, digits-all, digit-bounds}
+use Rattle.decimals.proofs.Readings.{digits-first, digits-one-more, digits-no-room, digits-before, digits-all, digit-bounds}
 use Rattle.decimals.proofs.read_digits.Goals as goal
 use Rattle.decimals.proofs.read_digits.Goals.{Else-not-fits, Then-is_digit}
 

@@ -1,11 +1,6 @@
-use mathlib.Core.Path.{◌≡◌, sym, ◌∙◌}
-use mathlib.Core.Bool.{true}
-use Prim.Native.Nat.{◌+◌, ◌-◌, ◌*◌, ◌<◌}
-use native.Mathlib.Omega.{arith}
-use lib.ListN.{length, get_or}
-use borrow.Author.Tests.{ltb-true, ltb-false, not-true, not-false}
-use Rattle.decimals.specs.Reading.{is_digit}
-use Rattle.decimals.proofs.Readings.{DigitsRead, digits-first, digits-one-more, digits-no-room, digits-before, digits-all, digit-bounds}
+use Prim.Native.Nat.{◌-◌}
+use lib.ListN.{length}
+use Rattle.decimals.proofs.Readings.{DigitsRead}
 use Rattle.decimals.proofs.read_digits.Given as goal
 
 -- `decimals::read_digits` meets its contract. Assumes nothing.

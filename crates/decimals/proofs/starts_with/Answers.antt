@@ -1,8 +1,7 @@
 -- `decimals::starts_with` meets its contract. Assumes nothing.
 use Prim.Native.Nat.{◌-◌}
 use native.Mathlib.Omega.{arith}
-use lib.ListN.{length}
-use Rattle.decimals.proofs.Readings.{Met, met-none, met_next, met-other, met_all, starts-short}
+use Rattle.decimals.proofs.Readings.{met-none, met_next, met-other, met_all, starts-short}
 use Rattle.decimals.proofs.starts_with.Goals as goal
 
 pub returns-then-text-label : goal.returns-then-text-label

@@ -1,7 +1,6 @@
 use Prim.Native.Nat.{◌-◌}
-use native.Mathlib.Omega.{arith}
 use lib.ListN.{length}
-use Rattle.decimals.proofs.Readings.{Met, met-none, met_next, met-other, met_all, starts-short}
+use Rattle.decimals.proofs.Readings.{Met}
 use Rattle.decimals.proofs.starts_with.Given as goal
 
 -- `decimals::starts_with` meets its contract. Assumes nothing.

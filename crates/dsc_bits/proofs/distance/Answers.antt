@@ -1,9 +1,6 @@
 -- `dsc_bits::distance` meets its contract: the count so far and that of the bits to come make the whole. Assumes nothing.
-use mathlib.Core.Path.{◌≡◌}
-use Prim.Native.Nat.{◌≤◌, ◌-◌, ◌+◌}
+use Prim.Native.Nat.{◌-◌}
 use native.Mathlib.Omega.{arith}
-use lib.ListN.{drop}
-use Rattle.dsc.specs.Code.{dist}
 use Rattle.dsc_bits.proofs.Steps.{dist-next, dist-done}
 use Rattle.dsc_bits.proofs.distance.Goals as goal
 

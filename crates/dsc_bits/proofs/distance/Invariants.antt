@@ -1,9 +1,7 @@
 use mathlib.Core.Path.{◌≡◌}
 use Prim.Native.Nat.{◌≤◌, ◌-◌, ◌+◌}
-use native.Mathlib.Omega.{arith}
 use lib.ListN.{drop}
 use Rattle.dsc.specs.Code.{dist}
-use Rattle.dsc_bits.proofs.Steps.{dist-next, dist-done}
 use Rattle.dsc_bits.proofs.distance.Given as goal
 
 -- `dsc_bits::distance` meets its contract: the count so far and that of the bits to come make the whole. Assumes nothing.

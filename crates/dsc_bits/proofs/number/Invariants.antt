@@ -1,12 +1,7 @@
-use mathlib.Core.Path.{◌≡◌, refl, sym, ap, ap₂, ◌∙◌}
-use Prim.Native.Nat.{◌≤◌, ◌<◌, ◌-◌, ◌+◌, ◌*◌, ◌^◌}
-use native.Mathlib.Nat.{lt_of_lt_of_le}
-use native.Mathlib.Omega.{arith}
+use mathlib.Core.Path.{◌≡◌}
+use Prim.Native.Nat.{◌≤◌, ◌-◌}
 use lib.ListN.{take, drop}
-use lib.Pow.{pow_mono}
 use Rattle.bits.specs.Bits.{value}
-use Rattle.bits.proofs.Bits.{value-take-lt}
-use Rattle.dsc_bits.proofs.Octets.{value-next}
 use Rattle.dsc_bits.proofs.number.Given as goal
 
 -- `dsc_bits::number` meets its contract: a bit at each turn. Assumes nothing.

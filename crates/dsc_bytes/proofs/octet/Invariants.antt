@@ -1,11 +1,8 @@
-use mathlib.Core.Path.{◌≡◌, refl, sym, ap, ap₂, ◌∙◌}
-use Prim.Native.Nat.{◌≤◌, ◌<◌, ◌-◌, ◌+◌, ◌*◌}
-use native.Mathlib.Omega.{arith}
+use mathlib.Core.Path.{◌≡◌}
+use Prim.Native.Nat.{◌≤◌, ◌-◌, ◌*◌}
 use lib.ListN.{take, drop}
 use Rattle.bits.specs.Bits.{value}
 use Rattle.dsc_bytes.specs.Padded.{padded}
-use Rattle.dsc_bits.proofs.Octets.{value-next}
-use Rattle.dsc_bytes.proofs.Frames.{value-small, length-padded}
 use Rattle.dsc_bytes.proofs.octet.Given as goal
 
 -- `dsc_bytes::octet` meets its contract: a bit of the byte at each turn. Assumes nothing.

@@ -1,6 +1,5 @@
 -- `dsc_bytes::received` meets its contract. Assumes nothing.
 use mathlib.Core.Path.{◌≡◌, sym, ap, ◌∙◌}
-use mathlib.Core.Bool.{false}
 use Prim.Native.Nat.{◌+◌, ◌-◌}
 use native.Mathlib.Omega.{arith}
 use lib.ListN.{length}
@@ -9,7 +8,7 @@ use Rattle.dsc.specs.Repair.{protected}
 use Rattle.dsc_bits.specs.Words.{at}
 use Rattle.dsc.proofs.Answers.{length-protected}
 use Rattle.dsc_bytes.proofs.Frames.{protected-at}
-use Rattle.dsc_bits.proofs.Steps.{Filled, filled_none, filled_next, filled-list}
+use Rattle.dsc_bits.proofs.Steps.{filled_none, filled_next, filled-list}
 use Rattle.dsc_bytes.proofs.received.Goals as goal
 
 pub loop-n-init : goal.loop-n-init

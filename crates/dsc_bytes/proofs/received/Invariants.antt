@@ -1,14 +1,8 @@
-use mathlib.Core.Path.{◌≡◌, sym, ap, ◌∙◌}
 use mathlib.Core.Bool.{false}
-use Prim.Native.Nat.{◌+◌, ◌-◌}
-use native.Mathlib.Omega.{arith}
-use lib.ListN.{length}
-use Rattle.bits.specs.Bits.{bits}
+use Prim.Native.Nat.{◌-◌}
 use Rattle.dsc.specs.Repair.{protected}
 use Rattle.dsc_bits.specs.Words.{at}
-use Rattle.dsc.proofs.Answers.{length-protected}
-use Rattle.dsc_bytes.proofs.Frames.{protected-at}
-use Rattle.dsc_bits.proofs.Steps.{Filled, filled_none, filled_next, filled-list}
+use Rattle.dsc_bits.proofs.Steps.{Filled}
 use Rattle.dsc_bytes.proofs.received.Given as goal
 
 -- `dsc_bytes::received` meets its contract. Assumes nothing.

@@ -2,12 +2,11 @@
 use mathlib.Core.Path.{sym, ◌∙◌}
 use Prim.Native.Nat.{◌-◌}
 use native.Mathlib.Omega.{arith}
-use lib.ListN.{get_or}
 use Rattle.dsc.specs.Repair.{word_bytes}
 use Rattle.dsc_bytes.specs.Padded.{padded}
 use Rattle.dsc.proofs.Answers.{length-word_bytes}
 use Rattle.dsc_bits.proofs.Octets.{bytes-at}
-use Rattle.dsc_bits.proofs.Steps.{Filled, filled_none, filled_next, filled-list}
+use Rattle.dsc_bits.proofs.Steps.{filled_none, filled_next, filled-list}
 use Rattle.dsc_bytes.proofs.word_bytes.Goals as goal
 
 pub loop-j-init : goal.loop-j-init

@@ -1,12 +1,7 @@
-use mathlib.Core.Path.{sym, ◌∙◌}
 use Prim.Native.Nat.{◌-◌}
-use native.Mathlib.Omega.{arith}
 use lib.ListN.{get_or}
 use Rattle.dsc.specs.Repair.{word_bytes}
-use Rattle.dsc_bytes.specs.Padded.{padded}
-use Rattle.dsc.proofs.Answers.{length-word_bytes}
-use Rattle.dsc_bits.proofs.Octets.{bytes-at}
-use Rattle.dsc_bits.proofs.Steps.{Filled, filled_none, filled_next, filled-list}
+use Rattle.dsc_bits.proofs.Steps.{Filled}
 use Rattle.dsc_bytes.proofs.word_bytes.Given as goal
 
 -- `dsc_bytes::word_bytes` meets its contract. Assumes nothing.

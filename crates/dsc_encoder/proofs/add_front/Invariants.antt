@@ -1,10 +1,7 @@
-use borrow.Author.Rules.{rules}
 use mathlib.Core.Path.{◌≡◌}
 use Prim.Native.Nat.{◌≤◌, ◌-◌}
-use native.Mathlib.Omega.{arith}
 use lib.ListN.{length, take}
 use Rattle.gf2.specs.Polynomial.{add}
-use Rattle.dsc_encoder.proofs.LongDivision.{add_none, add-next, add-all}
 use Rattle.dsc_encoder.proofs.add_front.Given as goal
 
 -- `dsc_encoder::add_front` meets its contract. Assumes nothing.

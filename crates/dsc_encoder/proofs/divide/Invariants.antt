@@ -1,12 +1,7 @@
-use mathlib.Core.Path.{◌≡◌, sym, ap, ap₂, ◌∙◌}
-use mathlib.Core.Logic.{⊎_elim}
-use mathlib.Core.List.{◌++◌}
-use Prim.Native.Nat.{suc, ◌≤◌, ◌-◌, ◌+◌}
-use native.Mathlib.Omega.{arith}
-use lib.ListN.{length, take, drop}
-use Rattle.gf2.specs.Polynomial.{add, remainder}
-use Rattle.bits.proofs.Slices.{rest-lent}
-use Rattle.dsc_encoder.proofs.LongDivision.{step-over, step-add, length-added}
+use mathlib.Core.Path.{◌≡◌}
+use Prim.Native.Nat.{◌≤◌, ◌-◌}
+use lib.ListN.{length, drop}
+use Rattle.gf2.specs.Polynomial.{remainder}
 use Rattle.dsc_encoder.proofs.divide.Given as goal
 
 -- `dsc_encoder::divide` meets its contract: what is still to be divided has the remainder of the whole. Assumes nothing.

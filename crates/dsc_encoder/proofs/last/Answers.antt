@@ -5,8 +5,7 @@ use Prim.Native.Nat.{◌-◌}
 use native.Mathlib.Omega.{arith}
 use lib.ListN.{drop, length-drop}
 use lib.Seq.{get_or-drop}
-use Rattle.dsc_bits.specs.Words.{at}
-use Rattle.dsc_bits.proofs.Steps.{Filled, filled_none, filled_next, filled-list}
+use Rattle.dsc_bits.proofs.Steps.{filled_none, filled_next, filled-list}
 use Rattle.dsc_encoder.proofs.last.Goals as goal
 
 pub loop-n-init : goal.loop-n-init

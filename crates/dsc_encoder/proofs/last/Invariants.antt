@@ -1,11 +1,8 @@
-use mathlib.Core.Path.{sym}
 use mathlib.Core.Bool.{false}
 use Prim.Native.Nat.{◌-◌}
-use native.Mathlib.Omega.{arith}
-use lib.ListN.{drop, length-drop}
-use lib.Seq.{get_or-drop}
+use lib.ListN.{drop}
 use Rattle.dsc_bits.specs.Words.{at}
-use Rattle.dsc_bits.proofs.Steps.{Filled, filled_none, filled_next, filled-list}
+use Rattle.dsc_bits.proofs.Steps.{Filled}
 use Rattle.dsc_encoder.proofs.last.Given as goal
 
 -- `dsc_encoder::last` meets its contract. Assumes nothing.

@@ -1,14 +1,12 @@
 -- `dsc_encoder::shifted` meets its contract. Assumes nothing.
 use mathlib.Core.Path.{ap}
-use mathlib.Core.Bool.{false}
 use mathlib.Core.List.{◌++◌}
 use Prim.Native.Nat.{◌-◌}
 use native.Mathlib.Omega.{arith}
 use lib.ListN.{length, take, length-append}
 use lib.Seq.{length-take-le}
 use Rattle.gf2.specs.Polynomial.{zeros}
-use Rattle.dsc_bits.specs.Words.{at}
-use Rattle.dsc_bits.proofs.Steps.{Filled, filled_none, filled_next, filled-list}
+use Rattle.dsc_bits.proofs.Steps.{filled_none, filled_next, filled-list}
 use Rattle.dsc_encoder.proofs.shifted.Goals as goal
 
 pub loop-n-init : goal.loop-n-init

@@ -1,13 +1,10 @@
-use mathlib.Core.Path.{ap}
 use mathlib.Core.Bool.{false}
 use mathlib.Core.List.{◌++◌}
 use Prim.Native.Nat.{◌-◌}
-use native.Mathlib.Omega.{arith}
-use lib.ListN.{length, take, length-append}
-use lib.Seq.{length-take-le}
+use lib.ListN.{take}
 use Rattle.gf2.specs.Polynomial.{zeros}
 use Rattle.dsc_bits.specs.Words.{at}
-use Rattle.dsc_bits.proofs.Steps.{Filled, filled_none, filled_next, filled-list}
+use Rattle.dsc_bits.proofs.Steps.{Filled}
 use Rattle.dsc_encoder.proofs.shifted.Given as goal
 
 -- `dsc_encoder::shifted` meets its contract. Assumes nothing.

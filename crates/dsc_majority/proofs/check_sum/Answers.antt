@@ -1,10 +1,8 @@
 -- `dsc_majority::check_sum` meets its contract: the sum so far and that of the places to come make the row's. Assumes nothing.
-use mathlib.Core.Path.{◌≡◌, refl, sym, ap, ◌∙◌}
-use Prim.Native.Nat.{◌≤◌, ◌-◌}
+use mathlib.Core.Path.{refl, sym, ap, ◌∙◌}
+use Prim.Native.Nat.{◌-◌}
 use native.Mathlib.Omega.{arith}
-use lib.ListN.{drop}
-use Rattle.gf2.specs.Polynomial.{◌⊕◌}
-use Rattle.dsc.specs.CheckTable.{sum_over, row, coefficient, syndrome}
+use Rattle.dsc.specs.CheckTable.{row, coefficient, syndrome}
 use Rattle.dsc.proofs.TableRows.{length-row, row-at}
 use Rattle.dsc_bits.proofs.Steps.{sum-next, sum_done}
 use Rattle.dsc_majority.proofs.check_sum.Goals as goal

@@ -3,13 +3,12 @@ use mathlib.Core.Path.{◌≡◌, refl, ap, ◌∙◌}
 use mathlib.Core.Bool.{false}
 use Prim.Native.Nat.{◌-◌, ◌<◌}
 use native.Mathlib.Omega.{arith}
-use lib.ListN.{length, drop}
+use lib.ListN.{length}
 use Rattle.gf2.specs.Register.{step}
 use Rattle.gf2.proofs.Register.{length-step}
 use Rattle.dsc.specs.Code.{generator_low}
 use Rattle.dsc.proofs.Word.{length-low}
-use Rattle.dsc_bits.specs.Words.{at}
-use Rattle.dsc_bits.proofs.Steps.{Filled, filled_none, filled_next, filled-list}
+use Rattle.dsc_bits.proofs.Steps.{filled_none, filled_next, filled-list}
 use Rattle.dsc_shift_register.specs.Register.{decided}
 use Rattle.dsc_shift_register.proofs.Turns.{length-decided, decided-at, decided-next}
 use Rattle.dsc_majority.proofs.decide_bits.Goals as goal

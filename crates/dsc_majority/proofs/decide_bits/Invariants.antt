@@ -1,16 +1,10 @@
-use mathlib.Core.Path.{◌≡◌, refl, ap, ◌∙◌}
+use mathlib.Core.Path.{◌≡◌}
 use mathlib.Core.Bool.{false}
-use Prim.Native.Nat.{◌-◌, ◌<◌}
-use native.Mathlib.Omega.{arith}
+use Prim.Native.Nat.{◌-◌}
 use lib.ListN.{length, drop}
-use Rattle.gf2.specs.Register.{step}
-use Rattle.gf2.proofs.Register.{length-step}
-use Rattle.dsc.specs.Code.{generator_low}
-use Rattle.dsc.proofs.Word.{length-low}
 use Rattle.dsc_bits.specs.Words.{at}
-use Rattle.dsc_bits.proofs.Steps.{Filled, filled_none, filled_next, filled-list}
+use Rattle.dsc_bits.proofs.Steps.{Filled}
 use Rattle.dsc_shift_register.specs.Register.{decided}
-use Rattle.dsc_shift_register.proofs.Turns.{length-decided, decided-at, decided-next}
 use Rattle.dsc_majority.proofs.decide_bits.Given as goal
 
 -- `dsc_majority::decide_bits` meets its contract: the bits passed are decided, and the state decides those to come. Assumes nothing.

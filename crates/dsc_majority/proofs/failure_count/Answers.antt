@@ -1,11 +1,10 @@
 -- `dsc_majority::failure_count` meets its contract: the count so far and that of the rows to come make the whole. Assumes nothing.
 use mathlib.Core.Path.{◌≡◌, ◌∙◌, sym, ap}
-use Prim.Native.Nat.{◌≤◌, ◌-◌, ◌+◌, ◌%◌}
+use Prim.Native.Nat.{◌-◌, ◌+◌, ◌%◌}
 use native.Mathlib.Omega.{arith}
-use lib.ListN.{drop, get_or}
+use lib.ListN.{get_or}
 use Rattle.bits.specs.Bits.{digit}
-use Rattle.dsc.specs.Code.{count}
-use Rattle.dsc.specs.CheckTable.{differences, rows_of, syndrome, failures}
+use Rattle.dsc.specs.CheckTable.{differences, rows_of, syndrome}
 use Rattle.dsc.proofs.TableRows.{length-rows, rows_at}
 use Rattle.dsc_bits.proofs.Steps.{count_next, count-done}
 use Rattle.dsc_shift_register.specs.Register.{decided_place}

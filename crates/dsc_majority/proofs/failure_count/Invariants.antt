@@ -1,12 +1,8 @@
-use mathlib.Core.Path.{◌≡◌, ◌∙◌, sym, ap}
-use Prim.Native.Nat.{◌≤◌, ◌-◌, ◌+◌, ◌%◌}
-use native.Mathlib.Omega.{arith}
-use lib.ListN.{drop, get_or}
-use Rattle.bits.specs.Bits.{digit}
+use mathlib.Core.Path.{◌≡◌}
+use Prim.Native.Nat.{◌≤◌, ◌-◌, ◌+◌}
+use lib.ListN.{drop}
 use Rattle.dsc.specs.Code.{count}
-use Rattle.dsc.specs.CheckTable.{differences, rows_of, syndrome, failures}
-use Rattle.dsc.proofs.TableRows.{length-rows, rows_at}
-use Rattle.dsc_bits.proofs.Steps.{count_next, count-done}
+use Rattle.dsc.specs.CheckTable.{rows_of, syndrome, failures}
 use Rattle.dsc_shift_register.specs.Register.{decided_place}
 use Rattle.dsc_majority.proofs.failure_count.Given as goal
 

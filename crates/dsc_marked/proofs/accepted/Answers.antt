@@ -9,12 +9,12 @@ pub returns-then-places-marked-gt17 : goal.returns-then-places-marked-gt17
 returns-then-places-marked-gt17 c =
     let x = c.args in
     over (held x.marks) (held x.received) (held x.word) c.sum-errors.ensures.1 c.clear_marked-counted.ensures.1 c.weight-places.ensures.0 c.requires.3
-    (omega (arith, c.if-places-marked-gt17.true))
+    (omega arith)
 
 pub returns : goal.returns
 returns c =
     let x = c.args in (
       refl,
       within (held x.marks) (held x.received) (held x.word) c.sum-errors.ensures.1 c.clear_marked-counted.ensures.1 c.weight-places.ensures.0 c.requires.3
-          (omega (arith, c.if-places-marked-gt17.false)),
+          (omega arith),
     )

@@ -7,10 +7,13 @@ use Rattle.dsc_register.proofs.repair.Goals as goal
 pub returns-then-frame-ne26 : goal.returns-then-frame-ne26
 returns-then-frame-ne26 c =
     let f = c.args.frame.now in
-    register-met f c.refused.result (c.refused.ensures ∙ repair-short f c.if-frame-ne26.true)
+    let both = register-met f c.refused.result (c.refused.ensures ∙ repair-short f c.if-frame-ne26.true) in
+    record { repairs = both.0; value = both.1 }
 
 pub returns : goal.returns
 returns c =
     let f = c.args.frame.now in
+    let both =
     register-met f c.repair_word.result
-    (c.repair_word.ensures ∙ ap register_answer c.received-received.ensures ∙ repair-long f c.if-frame-ne26.false)
+    (c.repair_word.ensures ∙ ap register_answer c.received-received.ensures ∙ repair-long f c.if-frame-ne26.false) in
+    record { repairs = both.0; value = both.1 }

@@ -2,7 +2,6 @@
 use mathlib.Core.Path.{◌≡◌, sym, ◌∙◌}
 use mathlib.Core.Bool.{true, false}
 use native.Mathlib.Omega.{arith}
-use borrow.Author.Tests.{not-true, not-false}
 use Rattle.dsc_register.proofs.Cases.{answer-not-word, answer-far, answer-near}
 use Rattle.dsc_register.proofs.repair_word.Goals as goal
 

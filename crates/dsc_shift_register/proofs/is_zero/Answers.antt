@@ -1,8 +1,7 @@
 -- `dsc_shift_register::is_zero` meets its contract: the cells passed hold 0. Assumes nothing.
-use mathlib.Core.Path.{◌≡◌, refl}
-use Prim.Native.Nat.{◌≤◌, ◌-◌}
+use mathlib.Core.Path.{refl}
+use Prim.Native.Nat.{◌-◌}
 use native.Mathlib.Omega.{arith}
-use lib.ListN.{drop}
 use Rattle.dsc.specs.Code.{all_zero}
 use Rattle.dsc_shift_register.proofs.Turns.{zero-next, zero-not, zero-done}
 use Rattle.dsc_shift_register.proofs.is_zero.Goals as goal

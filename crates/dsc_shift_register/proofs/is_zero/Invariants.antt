@@ -1,9 +1,7 @@
-use mathlib.Core.Path.{◌≡◌, refl}
+use mathlib.Core.Path.{◌≡◌}
 use Prim.Native.Nat.{◌≤◌, ◌-◌}
-use native.Mathlib.Omega.{arith}
 use lib.ListN.{drop}
 use Rattle.dsc.specs.Code.{all_zero}
-use Rattle.dsc_shift_register.proofs.Turns.{zero-next, zero-not, zero-done}
 use Rattle.dsc_shift_register.proofs.is_zero.Given as goal
 
 -- `dsc_shift_register::is_zero` meets its contract: the cells passed hold 0. Assumes nothing.

@@ -1,8 +1,8 @@
 -- `dsc_shift_register::load` meets its contract: the bits to come, into the state so far, make the loaded state. Assumes nothing.
 use mathlib.Core.Path.{◌≡◌, ap, ◌∙◌}
-use Prim.Native.Nat.{◌≤◌, ◌-◌}
+use Prim.Native.Nat.{◌-◌}
 use native.Mathlib.Omega.{arith}
-use lib.ListN.{length, drop}
+use lib.ListN.{length}
 use Rattle.gf2.specs.Register.{step, feed}
 use Rattle.gf2.proofs.Register.{length-step}
 use Rattle.dsc.specs.Code.{generator_low}

@@ -1,14 +1,9 @@
-use mathlib.Core.Path.{◌≡◌, ap, ◌∙◌}
+use mathlib.Core.Path.{◌≡◌}
 use Prim.Native.Nat.{◌≤◌, ◌-◌}
-use native.Mathlib.Omega.{arith}
 use lib.ListN.{length, drop}
-use Rattle.gf2.specs.Register.{step, feed}
-use Rattle.gf2.proofs.Register.{length-step}
+use Rattle.gf2.specs.Register.{feed}
 use Rattle.dsc.specs.Code.{generator_low}
-use Rattle.dsc.proofs.Word.{length-low}
-use Rattle.dsc_bits.specs.Words.{at}
 use Rattle.dsc_shift_register.specs.Register.{loaded}
-use Rattle.dsc_shift_register.proofs.Turns.{feed-next, feed-done}
 use Rattle.dsc_shift_register.proofs.load.Given as goal
 
 -- `dsc_shift_register::load` meets its contract: the bits to come, into the state so far, make the loaded state. Assumes nothing.

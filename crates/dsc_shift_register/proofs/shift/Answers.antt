@@ -1,13 +1,11 @@
 -- `dsc_shift_register::shift` meets its contract: the cells passed hold what they are to hold, the others what they held. Assumes nothing.
 use mathlib.Core.Path.{refl, ◌∙◌}
-use mathlib.Core.Bool.{false}
 use Prim.Native.Nat.{◌-◌}
 use native.Mathlib.Omega.{arith}
 use Rattle.gf2.specs.Register.{step}
 use Rattle.gf2.proofs.Register.{length-step}
-use Rattle.dsc_bits.specs.Words.{at}
-use Rattle.dsc_bits.proofs.Steps.{Filled, filled_none, filled_next, filled-list}
-use Rattle.dsc_shift_register.proofs.Turns.{Kept, kept_next, shifted_at}
+use Rattle.dsc_bits.proofs.Steps.{filled_none, filled_next, filled-list}
+use Rattle.dsc_shift_register.proofs.Turns.{kept_next, shifted_at}
 use Rattle.dsc_shift_register.proofs.shift.Goals as goal
 
 pub loop-j-init : goal.loop-j-init

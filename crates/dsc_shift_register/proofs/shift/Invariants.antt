@@ -1,12 +1,9 @@
-use mathlib.Core.Path.{refl, ◌∙◌}
 use mathlib.Core.Bool.{false}
 use Prim.Native.Nat.{◌-◌}
-use native.Mathlib.Omega.{arith}
 use Rattle.gf2.specs.Register.{step}
-use Rattle.gf2.proofs.Register.{length-step}
 use Rattle.dsc_bits.specs.Words.{at}
-use Rattle.dsc_bits.proofs.Steps.{Filled, filled_none, filled_next, filled-list}
-use Rattle.dsc_shift_register.proofs.Turns.{Kept, kept_next, shifted_at}
+use Rattle.dsc_bits.proofs.Steps.{Filled}
+use Rattle.dsc_shift_register.proofs.Turns.{Kept}
 use Rattle.dsc_shift_register.proofs.shift.Given as goal
 
 -- `dsc_shift_register::shift` meets its contract: the cells passed hold what they are to hold, the others what they held. Assumes nothing.

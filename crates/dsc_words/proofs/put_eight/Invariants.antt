@@ -1,12 +1,8 @@
-use mathlib.Core.Path.{◌≡◌, refl, sym, ap, ap₂, ◌∙◌}
-use Prim.Native.Nat.{◌+◌, ◌-◌, ◌≤◌}
-use native.Mathlib.Omega.{arith}
-use lib.ListN.{length, take, set}
-use lib.Seq.{sets, length-sets, take_all}
+use mathlib.Core.Path.{◌≡◌}
+use Prim.Native.Nat.{◌-◌, ◌≤◌}
+use lib.ListN.{length, take}
+use lib.Seq.{sets}
 use Rattle.bits.specs.Bits.{bits_of, bytes}
-use Rattle.bits.proofs.Bits.{length-bytes}
-use Rattle.bits.proofs.Slices.{sets-next}
-use Rattle.dsc_words.proofs.Loading.{word_byte}
 use Rattle.dsc_words.proofs.put_eight.Given as goal
 
 -- `dsc_words::put_eight` meets its contract: what has been stored are the first i bytes of n. Assumes nothing.

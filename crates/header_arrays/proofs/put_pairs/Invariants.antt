@@ -1,11 +1,8 @@
-use mathlib.Core.Path.{◌≡◌, ◌∙◌, ap, refl, sym}
-use mathlib.Core.List.{List}
-use Prim.Native.Nat.{ℕ, ◌+◌, ◌-◌, ◌*◌, ◌≤◌}
-use native.Mathlib.Omega.{arith}
-use lib.ListN.{length, get_or, set, length-set}
-use lib.Seq.{paste, paste-zero}
+use mathlib.Core.Path.{◌≡◌}
+use Prim.Native.Nat.{◌-◌, ◌*◌, ◌≤◌}
+use lib.ListN.{length}
+use lib.Seq.{paste}
 use Rattle.header.specs.Fields.{pairs}
-use Rattle.header_arrays.proofs.Copies.{placed-paste, pairs-turn, length_pairs}
 use Rattle.header_arrays.proofs.put_pairs.Given as goal
 
 -- `header_arrays::put_pairs` meets its contract. Assumes nothing.

@@ -1,5 +1,5 @@
 -- `place_desk::depth_of` meets its contract. Assumes nothing.
-use Rattle.std.proofs.Common.{arith, rules}
+use Rattle.std.proofs.Common.{arith}
 use Rattle.place.proofs.Equality.{passes}
 use Rattle.place.proofs.Inverse.{kilometres-inverse}
 use Rattle.place.proofs.Search.{beyond, alike, unlike}

@@ -1,5 +1,5 @@
 -- `place_desk::fields_of` meets its contract. Assumes nothing.
-use Rattle.std.proofs.Common.{sym, refl, ◌∙◌, rules}
+use Rattle.std.proofs.Common.{sym, refl, ◌∙◌}
 use Rattle.place_desk.proofs.Cases.{conversion}
 use Rattle.place_desk.proofs.fields_of.Goals as goal
 

@@ -1,5 +1,5 @@
 -- `place_desk::signed_of` meets its contract. Assumes nothing.
-use Rattle.std.proofs.Common.{sym, refl, ◌∙◌, rules}
+use Rattle.std.proofs.Common.{sym, refl, ◌∙◌}
 use Rattle.place_desk.proofs.Cases.{either}
 use Rattle.place_desk.proofs.signed_of.Goals as goal
 

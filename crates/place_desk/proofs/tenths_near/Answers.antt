@@ -1,6 +1,5 @@
 -- `place_desk::tenths_near` meets its contract. Assumes nothing.
 use lib.Ieee.{of_bits, of_int}
-use Rattle.std.proofs.Common.{rules}
 use Rattle.place.specs.Degrees.{whole}
 use Rattle.place_desk.proofs.Cases.{near-negated, near-plain}
 use Rattle.place_desk.proofs.tenths_near.Goals as goal

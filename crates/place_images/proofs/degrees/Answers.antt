@@ -1,5 +1,5 @@
 -- `place_images::degrees` meets its contract. Assumes nothing.
-use Rattle.std.proofs.Common.{◌≡◌, ℕ, rules, eq-eqb, ne_eqb}
+use Rattle.std.proofs.Common.{◌≡◌, ℕ, eq-eqb, ne_eqb}
 use lib.Ieee.{Float, binary64, div, neg, of_bits, of_int}
 use Rattle.place.specs.Degrees.{whole, tenths, degrees_of}
 use Rattle.place_images.proofs.degrees.Goals as goal

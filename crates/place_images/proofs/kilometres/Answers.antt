@@ -1,5 +1,4 @@
 -- `place_images::kilometres` meets its contract. Assumes nothing.
-use Rattle.std.proofs.Common.{rules}
 use Rattle.place.specs.Degrees.{whole}
 use Rattle.place_images.proofs.kilometres.Goals as goal
 

@@ -1,17 +1,17 @@
 -- `segments::read_fields` meets its contract. Assumes nothing.
 use mathlib.Core.Path.{◌≡◌, ◌∙◌, ap, sym, refl}
-use mathlib.Core.Bool.{Bool, cond, ◌&&◌}
-use Prim.Native.Nat.{ℕ, ◌+◌, ◌-◌, ◌≤◌, ◌<◌}
+use mathlib.Core.Bool.{Bool, cond}
+use Prim.Native.Nat.{ℕ, ◌+◌, ◌-◌, ◌<◌}
 use native.Mathlib.Omega.{arith}
-use lib.ListN.{length, get_or, take, drop}
+use lib.ListN.{length, get_or}
 use Rattle.bits.specs.Bits.{bits}
 use Rattle.bits.specs.Field.{field_at}
 use Rattle.bits.specs.Layout.{sum}
-use Rattle.bits.specs.Segment.{segments, segment, holds, unpack_segments, fixed_bits_hold}
+use Rattle.bits.specs.Segment.{segment, holds}
 use Rattle.bits.proofs.Field.{within-room}
 use Rattle.bits.proofs.Layouts.{sum-take, sum-next}
 use Rattle.segments.specs.Step.{stored}
-use Rattle.segments.proofs.Turns.{ReadSoFar, read-turn, read-room, read-end, fixed-turn, fixed-end}
+use Rattle.segments.proofs.Turns.{read-turn, read-room, read-end, fixed-turn, fixed-end}
 use Rattle.segments.proofs.read_fields.Goals as goal
 
 pub loop-j-init : goal.loop-j-init

@@ -1,16 +1,11 @@
-use mathlib.Core.Path.{◌≡◌, ◌∙◌, ap, sym, refl}
-use mathlib.Core.Bool.{Bool, cond, ◌&&◌}
-use Prim.Native.Nat.{ℕ, ◌+◌, ◌-◌, ◌≤◌, ◌<◌}
-use native.Mathlib.Omega.{arith}
-use lib.ListN.{length, get_or, take, drop}
+use mathlib.Core.Path.{◌≡◌}
+use mathlib.Core.Bool.{◌&&◌}
+use Prim.Native.Nat.{◌-◌, ◌≤◌}
+use lib.ListN.{length, take, drop}
 use Rattle.bits.specs.Bits.{bits}
-use Rattle.bits.specs.Field.{field_at}
 use Rattle.bits.specs.Layout.{sum}
-use Rattle.bits.specs.Segment.{segments, segment, holds, unpack_segments, fixed_bits_hold}
-use Rattle.bits.proofs.Field.{within-room}
-use Rattle.bits.proofs.Layouts.{sum-take, sum-next}
-use Rattle.segments.specs.Step.{stored}
-use Rattle.segments.proofs.Turns.{ReadSoFar, read-turn, read-room, read-end, fixed-turn, fixed-end}
+use Rattle.bits.specs.Segment.{segments, unpack_segments, fixed_bits_hold}
+use Rattle.segments.proofs.Turns.{ReadSoFar}
 use Rattle.segments.proofs.read_fields.Given as goal
 
 -- `segments::read_fields` meets its contract. Assumes nothing.

@@ -8,9 +8,8 @@ use lib.ListN.{length, get_or, take, drop}
 use lib.Seq.{take-length}
 use Rattle.bits.specs.Bits.{bits}
 use Rattle.bits.specs.Layout.{sum}
-use Rattle.bits.specs.Segment.{segments, pack_segments}
 use Rattle.bits.proofs.Layouts.{sum-take, sum-next}
-use Rattle.segments.proofs.Turns.{WrittenSoFar, write-room, write-turn, write-end, put-turn}
+use Rattle.segments.proofs.Turns.{write-room, write-turn, write-end, put-turn}
 use Rattle.segments.proofs.write_fields.Goals as goal
 
 pub loop-j-init : goal.loop-j-init

@@ -1,15 +1,11 @@
-use mathlib.Core.Path.{◌≡◌, ◌∙◌, ap, ap₂, sym, refl}
-use mathlib.Core.Bool.{Bool}
-use mathlib.Core.List.{List, ◌++◌}
-use Prim.Native.Nat.{ℕ, ◌+◌, ◌-◌, ◌*◌, ◌≤◌, ◌<◌}
-use native.Mathlib.Omega.{arith}
-use lib.ListN.{length, get_or, take, drop}
-use lib.Seq.{take-length}
+use mathlib.Core.Path.{◌≡◌}
+use mathlib.Core.List.{◌++◌}
+use Prim.Native.Nat.{◌+◌, ◌-◌, ◌≤◌}
+use lib.ListN.{length, take, drop}
 use Rattle.bits.specs.Bits.{bits}
 use Rattle.bits.specs.Layout.{sum}
 use Rattle.bits.specs.Segment.{segments, pack_segments}
-use Rattle.bits.proofs.Layouts.{sum-take, sum-next}
-use Rattle.segments.proofs.Turns.{WrittenSoFar, write-room, write-turn, write-end, put-turn}
+use Rattle.segments.proofs.Turns.{WrittenSoFar}
 use Rattle.segments.proofs.write_fields.Given as goal
 
 -- `segments::write_fields` meets its contract. Assumes nothing.

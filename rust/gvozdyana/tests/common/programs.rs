@@ -9,7 +9,7 @@ use std::time::Duration;
 fn program(name: &str) -> PathBuf {
     let folder = PathBuf::from(env!("CARGO_MANIFEST_DIR")).join("../../target/bin");
     let path = folder.join(name);
-    let built = format!("{} is built by rt check {name}", path.display());
+    let built = format!("{} is built by .ci/outside", path.display());
     assert!(path.exists(), "{built}");
     path
 }
