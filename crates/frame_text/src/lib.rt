@@ -2,6 +2,7 @@
 // record's fields, or `2 refused 4`.
 // Of a frame repaired: `1 repaired 0` and the repaired word, or `2 refused 4`. What the lines tell of is proved in `frame_reader` and `dsc_codec`.
 #![tactic(auto)]
+
 use dsc::Outcome;
 use frame::{Edition, FIELDS, Reading, Record, Tuner};
 use std::io;
@@ -72,12 +73,7 @@ fn line<W: Write>(asked: Question, n: u64, frame: &[u8], to: &mut W) -> io::Resu
 }
 
 // Reads a piece of 26 bytes and writes its line, and answers whether there was one; a short last piece is a frame.
-fn turn<R: Read, W: Write>(
-    asked: Question,
-    n: u64,
-    from: &mut R,
-    to: &mut W,
-) -> io::Result<bool> {
+fn turn<R: Read, W: Write>(asked: Question, n: u64, from: &mut R, to: &mut W) -> io::Result<bool> {
     let mut piece = [0u8; 26];
     let got = input_io::read(26, &mut piece, from)?;
     if got == 0 {

@@ -1,6 +1,7 @@
 // The ledger of the frames that a reader gives, and its report on a writer, by the edition named. What is counted is proved in `ledger_input` and
 // `ledger_counter`, and the text in `ledger_printer`; here is only the reading and writing, 65,520 bytes at a time, so that the system is asked seldom.
 #![tactic(auto)]
+
 ghost use Rattle.std.specs.Prelude.{◌≡◌, ◌≤◌, length, IfOk, OnOk, IfSome};
 ghost use Rattle.std.specs.Io.KnownBytes.{Appends};
 ghost use Rattle.ledger.specs.Report.{length_of};

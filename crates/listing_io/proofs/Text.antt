@@ -44,7 +44,7 @@ module _ (ed : Edition) (p : Pieces) where
         done = m.done ++ text;
         wrote = Appends-trans to₀ to to' m.done text m.wrote a;
         whole = λ k h.
-        append_assoc m.done text (program_text ed p k u (drop t.wanted m.rest) v) ∙ ap (λ l. m.done ++ l) (unrolled k t u m.rest out v left' some f')
+            append_assoc m.done text (program_text ed p k u (drop t.wanted m.rest) v) ∙ ap (λ l. m.done ++ l) (unrolled k t u m.rest out v left' some f')
             ∙ m.whole (suc k) (omega arith);
       }
 

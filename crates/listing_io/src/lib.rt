@@ -2,6 +2,7 @@
 // written, are proved in `listing_turns` and `listing_pieces`; here is only the reading and writing, 65,520 bytes at a time, so that the system is asked
 // seldom.
 #![tactic(auto)]
+
 ghost use Rattle.std.specs.Prelude.{◌≡◌, ◌≤◌, length, take, IfOk, OnOk, IfSome};
 ghost use Rattle.std.specs.Io.KnownBytes.{Appends};
 ghost use Rattle.listing.specs.Lines.{listing_of};

@@ -1,5 +1,6 @@
 // Writes the report of the frames on standard input, judged by the first edition.
 #![tactic(auto)]
+
 use frame::Edition;
 use std::io;
 

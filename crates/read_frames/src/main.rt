@@ -1,5 +1,6 @@
 // Reads the frames on standard input, 26 bytes each, by the first edition, and prints what each says.
 #![tactic(auto)]
+
 use frame::Edition;
 use std::io;
 use std::io::{BufReader, BufWriter, Write};
@@ -7,6 +8,10 @@ use std::io::{BufReader, BufWriter, Write};
 fn main(rt: HostRuntime) -> io::Result<()> {
     let mut input = BufReader::new(rt.alloc(), rt.stdin())?;
     let mut output = BufWriter::new(rt.alloc(), rt.stdout())?;
-    frame_text::run(frame_text::Question::Read(Edition::First), &mut input, &mut output)?;
+    frame_text::run(
+        frame_text::Question::Read(Edition::First),
+        &mut input,
+        &mut output,
+    )?;
     output.flush()
 }

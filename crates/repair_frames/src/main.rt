@@ -1,5 +1,6 @@
 // Repairs the frames on standard input, 26 bytes each, and prints what it did.
 #![tactic(auto)]
+
 use std::io;
 use std::io::{BufReader, BufWriter, Write};
 

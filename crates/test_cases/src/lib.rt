@@ -7,6 +7,7 @@
 // An answer is a line: the case's number, what the operation tells on its way, a status, and the lent slice as it stands after the call, bytes after a colon, numbers after a
 // space each, all hexadecimal but the case's number. What stands n times in a row in the slice is written once, with `*n`, and of bytes a point.
 #![tactic(auto)]
+
 ghost use Rattle.std.specs.Prelude.{◌≡◌, ◌<◌, ◌≤◌, true, false, length, IfOk};
 ghost use Rattle.bits.specs.Field.{get_of};
 

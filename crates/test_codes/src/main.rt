@@ -1,5 +1,6 @@
 // Runs test cases of the checksums, of the code and of fields of bits: see `test_cases`. The cases, and what they must answer, come from rust/vectors.
 #![tactic(auto)]
+
 use dsc::Outcome;
 use std::io;
 use std::io::{BufReader, BufWriter, Read, Write};
@@ -49,7 +50,14 @@ fn put(s: &mut [u8], at: usize, width: usize, value: u64) -> u64 {
     0
 }
 
-fn answer<W: Write>(case: Case, a: usize, b: usize, input: &[u8], lent: &mut [u8], to: &mut W) -> io::Result<u64> {
+fn answer<W: Write>(
+    case: Case,
+    a: usize,
+    b: usize,
+    input: &[u8],
+    lent: &mut [u8],
+    to: &mut W,
+) -> io::Result<u64> {
     let operation = case.operation;
     let status = match operation {
         0 => crc10::crc10(input, a, b) as u64,

@@ -1,6 +1,7 @@
 // Runs test cases of frames and records: see `test_cases`. The cases, and what they must answer, come from rust/vectors. A case's third number names the
 // edition, as a C program does.
 #![tactic(auto)]
+
 use std::io;
 use std::io::{BufReader, BufWriter, Read, Write};
 use test_cases::Case;
@@ -11,9 +12,17 @@ fn edition(case: Case) -> u32 {
 }
 
 // Answers the reader, told the tuner that the case's second number names.
-fn frame_read<W: Write>(case: Case, frame: &[u8], lent: &mut [u64], to: &mut W) -> io::Result<bool> {
+fn frame_read<W: Write>(
+    case: Case,
+    frame: &[u8],
+    lent: &mut [u64],
+    to: &mut W,
+) -> io::Result<bool> {
     let tuner = (case.b % 0x100000000) as u32;
-    test_cases::hex(abi_frame::frame_read(edition(case), tuner, frame, lent) as u64, to)?;
+    test_cases::hex(
+        abi_frame::frame_read(edition(case), tuner, frame, lent) as u64,
+        to,
+    )?;
     test_cases::end_values(lent, to)
 }
 

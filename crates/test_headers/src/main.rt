@@ -1,5 +1,6 @@
 // Runs test cases of the cable header: see `test_cases`. The cases, and what they must answer, come from rust/vectors.
 #![tactic(auto)]
+
 use std::io;
 use std::io::{BufReader, BufWriter, Read, Write};
 use test_cases::Case;

@@ -1,6 +1,7 @@
 // Runs test cases of laying a frame into a header and taking it out: see `test_cases`. The cases, and what they must answer, come from rust/vectors. A
 // case's third number names the edition, as a C program does.
 #![tactic(auto)]
+
 use std::io;
 use std::io::{BufReader, BufWriter, Read, Write};
 use test_cases::Case;

@@ -1,6 +1,7 @@
 // Runs test cases of the day's ledger: see `test_cases`. The cases, and what they must answer, come from rust/vectors. A case's third number names the
 // edition, as a C program does; a ledger is a slice of numbers.
 #![tactic(auto)]
+
 use std::io;
 use std::io::{BufReader, BufWriter, Read, Write};
 use test_cases::Case;

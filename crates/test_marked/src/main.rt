@@ -2,6 +2,7 @@
 // slice is a frame and its marks, the frame as long as the case's first number says; the second number names the tuner and the third one the edition, as
 // a C program does.
 #![tactic(auto)]
+
 use std::io;
 use std::io::{BufReader, BufWriter, Read, Write};
 use test_cases::Case;
@@ -22,21 +23,39 @@ fn status_of(case: Case, frame: &[u8], marks: &[u8], lent: &mut [u8]) -> u64 {
 }
 
 // Answers the reader, told the tuner that the case names.
-fn frame_read_marked<W: Write>(case: Case, frame: &[u8], marks: &[u8], lent: &mut [u64], to: &mut W) -> io::Result<bool> {
+fn frame_read_marked<W: Write>(
+    case: Case,
+    frame: &[u8],
+    marks: &[u8],
+    lent: &mut [u64],
+    to: &mut W,
+) -> io::Result<bool> {
     let tuner = (case.b % 0x100000000) as u32;
     let status = abi_marked_frame::frame_read_marked(edition(case), tuner, frame, marks, lent);
     test_cases::hex(status as u64, to)?;
     test_cases::end_values(lent, to)
 }
 
-fn read<W: Write>(case: Case, frame: &[u8], marks: &[u8], bytes: &[u8], to: &mut W) -> io::Result<bool> {
+fn read<W: Write>(
+    case: Case,
+    frame: &[u8],
+    marks: &[u8],
+    bytes: &[u8],
+    to: &mut W,
+) -> io::Result<bool> {
     let mut lent = test_values::no_values();
     let n = test_values::values(bytes, &mut lent);
     frame_read_marked(case, frame, marks, &mut lent[0..n], to)
 }
 
 // Answers a case of this frame and these marks.
-fn run<W: Write>(case: Case, frame: &[u8], marks: &[u8], lent: &mut [u8], to: &mut W) -> io::Result<bool> {
+fn run<W: Write>(
+    case: Case,
+    frame: &[u8],
+    marks: &[u8],
+    lent: &mut [u8],
+    to: &mut W,
+) -> io::Result<bool> {
     if 3 < case.operation {
         return Ok(test_cases::wrong(to)?.found);
     }

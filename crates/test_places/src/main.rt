@@ -1,6 +1,7 @@
 // Runs test cases of reports and places, doubles by their bits: see `test_cases`. The cases, and what they must answer, come from rust/vectors. The third
 // number of a report names the edition, as a C program does.
 #![tactic(auto)]
+
 use std::io;
 use std::io::{BufReader, BufWriter, Read, Write};
 use test_cases::Case;
@@ -13,7 +14,13 @@ fn put_doubles<W: Write>(s: &[f64; 4], to: &mut W) -> io::Result<()> {
 }
 
 // Lends so many of four doubles, and tells them all.
-fn lend_doubles<W: Write>(edition: u32, fields: &[u64], before: f64, lent: usize, to: &mut W) -> io::Result<u64> {
+fn lend_doubles<W: Write>(
+    edition: u32,
+    fields: &[u64],
+    before: f64,
+    lent: usize,
+    to: &mut W,
+) -> io::Result<u64> {
     let mut place = [before; 4];
     let n = numbers::smaller(lent, 4);
     let status = abi_place::report(edition, fields, &mut place[0..n]) as u64;
@@ -21,7 +28,13 @@ fn lend_doubles<W: Write>(edition: u32, fields: &[u64], before: f64, lent: usize
     Ok(status)
 }
 
-fn report<W: Write>(edition: u32, numbers: &[u8], before: f64, lent: usize, to: &mut W) -> io::Result<u64> {
+fn report<W: Write>(
+    edition: u32,
+    numbers: &[u8],
+    before: f64,
+    lent: usize,
+    to: &mut W,
+) -> io::Result<u64> {
     let mut fields = test_values::no_values();
     let n = test_values::values(numbers, &mut fields);
     lend_doubles(edition, &fields[0..n], before, lent, to)

@@ -1,5 +1,6 @@
 // The report of no frames.
 #![tactic(auto)]
+
 use frame::Edition;
 use std::io;
 

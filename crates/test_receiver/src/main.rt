@@ -1,6 +1,7 @@
 // Runs test cases of the follower and of the captures: see `test_cases`. The cases, and what they must answer, come from rust/vectors. A case's third
 // number names the edition, as a C program does.
 #![tactic(auto)]
+
 use follower::Follower;
 use follower_events::{Event, Kind};
 use frame::Edition;
@@ -103,7 +104,13 @@ fn captures(case: Case, edition: u32, input: &[u8], lent: &mut [u8]) -> u64 {
 
 // ---- the operations
 
-fn answer<W: Write>(case: Case, edition: u32, input: &[u8], lent: &mut [u8], to: &mut W) -> io::Result<u64> {
+fn answer<W: Write>(
+    case: Case,
+    edition: u32,
+    input: &[u8],
+    lent: &mut [u8],
+    to: &mut W,
+) -> io::Result<u64> {
     let operation = case.operation;
     let status = match operation {
         0 => abi_receiver::follow(edition, (case.a % 0x100000000) as u32, input) as u64,

@@ -1,6 +1,7 @@
 // Runs test cases of the records that two captures and the desk give: see `test_cases`. The cases, and what they must answer, come from rust/vectors. A
 // case's third number names the edition, as a C program does.
 #![tactic(auto)]
+
 use abi_record::VALUES;
 use capture_reader::CaptureReading;
 use desk_record::{DeskRecord, DeskWarning};
