@@ -2,118 +2,93 @@
 // record's fields, or `2 refused 4`.
 // Of a frame repaired: `1 repaired 0` and the repaired word, or `2 refused 4`. What the lines tell of is proved in `frame_reader` and `dsc_codec`.
 #![tactic(auto)]
+
 use dsc::Outcome;
 use frame::{Edition, FIELDS, Reading, Record, Tuner};
-use libc::{STDIN_FILENO, STDOUT_FILENO};
+use std::io;
+use std::io::{Read, Write};
 
 // What is asked of each frame: reading names the edition.
-#[derive(Drop)]
+#[derive(Clone, Copy)]
 pub enum Question {
     Read(Edition),
     Repair,
 }
 
-fn text(s: &[u8]) {
-    io::write_all(STDOUT_FILENO, s);
-}
-
-fn number(n: u64) {
-    io::print_decimal(STDOUT_FILENO, n);
-}
-
-// A byte, as two hexadecimal digits.
-fn byte(b: u8) {
-    io::print_hex(STDOUT_FILENO, b as u64, 2);
-}
-
 // Bytes, two hexadecimal digits each.
-fn bytes(s: &[u8]) {
-    for i in 0..s.len() {
-        byte(s[i]);
+fn bytes<W: Write>(s: &[u8], to: &mut W) -> io::Result<()> {
+    for b in s {
+        write!(to, "{b:02x}")?;
     }
+    Ok(())
 }
 
-// A space and a field.
-fn field(n: u64) {
-    text(b" ");
-    number(n);
-}
-
-// The fields in their order.
-fn record(r: Record) {
+// The fields in their order, a space before each.
+fn record<W: Write>(r: Record, to: &mut W) -> io::Result<()> {
     let v = frame_fields::fields_of(r);
     for k in 0..FIELDS {
-        field(v[k]);
+        let field = v[k];
+        write!(to, " {field}")?;
     }
-}
-
-// A small number, as a refusal's or of places. That a field of a record fits its type is no longer found where a `match` has bound the record, but where
-// it is handed over.
-fn count(n: u8) {
-    number(n as u64);
+    Ok(())
 }
 
 // What a refusal's line says.
-fn refused(n: u8) {
-    text(b" refused ");
-    count(n);
+fn refused<W: Write>(n: u8, to: &mut W) -> io::Result<()> {
+    write!(to, " refused {n}")
 }
 
 // What the line of a frame says of its reading.
-fn reading(edition: Edition, frame: &[u8]) {
+fn reading<W: Write>(edition: Edition, frame: &[u8], to: &mut W) -> io::Result<()> {
     match frame_reader::read(edition, Tuner::None, frame) {
         Reading::Accepted(r, differing) => {
-            text(b" accepted ");
-            count(r.origin.repaired);
-            text(b" ");
-            count(differing);
-            record(r);
+            let repaired = r.origin.repaired;
+            write!(to, " accepted {repaired} {differing}")?;
+            record(r, to)
         }
-        Reading::Refused(n) => refused(n),
+        Reading::Refused(n) => refused(n, to),
     }
 }
 
 // What the line of a frame says of its repair.
-fn repair(frame: &[u8]) {
+fn repair<W: Write>(frame: &[u8], to: &mut W) -> io::Result<()> {
     let answer = dsc_codec::repair(frame);
-    let outcome = answer.outcome;
-    match outcome {
+    match answer.outcome {
         Outcome::Repaired(places) => {
-            text(b" repaired ");
-            count(places);
-            text(b" ");
-            let w = answer.word;
-            bytes(&w);
+            write!(to, " repaired {places} ")?;
+            bytes(&answer.word, to)
         }
-        Outcome::Refused(n) => refused(n),
+        Outcome::Refused(n) => refused(n, to),
     }
 }
 
 // The line of frame n.
-fn line(asked: Question, n: u64, frame: &[u8]) {
-    number(n);
+fn line<W: Write>(asked: Question, n: u64, frame: &[u8], to: &mut W) -> io::Result<()> {
+    write!(to, "{n}")?;
     match asked {
-        Question::Read(edition) => reading(edition, frame),
-        Question::Repair => repair(frame),
+        Question::Read(edition) => reading(edition, frame, to)?,
+        Question::Repair => repair(frame, to)?,
     }
-    text(b"\n");
+    to.write_all(b"\n")
 }
 
 // Reads a piece of 26 bytes and writes its line, and answers whether there was one; a short last piece is a frame.
-fn turn(asked: Question, n: u64) -> bool {
+fn turn<R: Read, W: Write>(asked: Question, n: u64, from: &mut R, to: &mut W) -> io::Result<bool> {
     let mut piece = [0u8; 26];
-    let got = io::read_full(STDIN_FILENO, &mut piece);
+    let got = input_io::read(26, &mut piece, from)?;
     if got == 0 {
-        return false;
+        return Ok(false);
     }
-    line(asked, n, &piece[..got]);
-    true
+    line(asked, n, &piece[..got], to)?;
+    Ok(true)
 }
 
-// The lines of the frames on standard input, 26 bytes each, 999,999 at most.
-pub fn run(asked: Question) {
-    let mut n: u64 = 0;
-    while n < 999999 && turn(asked, n + 1) {
-        n += 1;
+// The lines of the frames that a reader gives, 26 bytes each, 999,999 at most.
+pub fn run<R: Read, W: Write>(asked: Question, from: &mut R, to: &mut W) -> io::Result<()> {
+    for n in 1..1000000 {
+        if !turn(asked, n, from, to)? {
+            break;
+        }
     }
+    Ok(())
 }

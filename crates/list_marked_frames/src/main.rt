@@ -3,9 +3,16 @@
 // 9 of which one is marked, 12 and 17 hits under marks, 10 of which 7 are marked, a wrong filler with 18 marks, marks on the synchronising bits with four and
 // three of them wrong, 8 hits with marks on everything but B17 to B203, area safety information, and a frame without its marks, which is a short last piece.
 #![tactic(auto)]
+
 use frame::Edition;
 use listing::Pieces;
+use std::io;
 
-fn main() {
-    listing_io::run(Edition::First, Pieces::MarkedFrames);
+fn main(rt: HostRuntime) -> io::Result<()> {
+    listing_io::run(
+        Edition::First,
+        Pieces::MarkedFrames,
+        &mut rt.stdin(),
+        &mut rt.stdout(),
+    )
 }

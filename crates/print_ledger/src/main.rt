@@ -1,7 +1,9 @@
 // Writes the report of the frames on standard input, judged by the first edition.
 #![tactic(auto)]
-use frame::Edition;
 
-fn main() {
-    ledger_io::run(Edition::First);
+use frame::Edition;
+use std::io;
+
+fn main(rt: HostRuntime) -> io::Result<()> {
+    ledger_io::run(Edition::First, &mut rt.stdin(), &mut rt.stdout())
 }

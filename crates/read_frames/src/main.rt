@@ -1,7 +1,17 @@
 // Reads the frames on standard input, 26 bytes each, by the first edition, and prints what each says.
 #![tactic(auto)]
-use frame::Edition;
 
-fn main() {
-    frame_text::run(frame_text::Question::Read(Edition::First));
+use frame::Edition;
+use std::io;
+use std::io::{BufReader, BufWriter, Write};
+
+fn main(rt: HostRuntime) -> io::Result<()> {
+    let mut input = BufReader::new(rt.alloc(), rt.stdin())?;
+    let mut output = BufWriter::new(rt.alloc(), rt.stdout())?;
+    frame_text::run(
+        frame_text::Question::Read(Edition::First),
+        &mut input,
+        &mut output,
+    )?;
+    output.flush()
 }

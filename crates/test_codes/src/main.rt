@@ -1,22 +1,25 @@
 // Runs test cases of the checksums, of the code and of fields of bits: see `test_cases`. The cases, and what they must answer, come from rust/vectors.
 #![tactic(auto)]
+
 use dsc::Outcome;
+use std::io;
+use std::io::{BufReader, BufWriter, Read, Write};
 use test_cases::Case;
 
 // The CRC-10 from a bit on, of no bit, of one, and so on; and of all of them.
-fn crc10_counts(s: &[u8], at: usize, count: usize) -> u64 {
+fn crc10_counts<W: Write>(s: &[u8], at: usize, count: usize, to: &mut W) -> io::Result<u64> {
     for i in 0..count {
-        test_cases::hex(crc10::crc10(s, at, i) as u64);
+        test_cases::hex(crc10::crc10(s, at, i) as u64, to)?;
     }
-    crc10::crc10(s, at, count) as u64
+    Ok(crc10::crc10(s, at, count) as u64)
 }
 
 // The CRC-32 of nothing, of the first byte, of the first two, and so on; and of all.
-fn crc32_lengths(s: &[u8]) -> u64 {
+fn crc32_lengths<W: Write>(s: &[u8], to: &mut W) -> io::Result<u64> {
     for i in 0..s.len() {
-        test_cases::hex(crc32::crc32(&s[0..i]) as u64);
+        test_cases::hex(crc32::crc32(&s[0..i]) as u64, to)?;
     }
-    crc32::crc32(s) as u64
+    Ok(crc32::crc32(s) as u64)
 }
 
 fn encode(frame: &mut [u8]) -> u64 {
@@ -26,7 +29,7 @@ fn encode(frame: &mut [u8]) -> u64 {
 
 fn put_word(word: &[u8], lent: &mut [u8]) {
     if word.len() <= lent.len() {
-        bytes::copy(word, lent);
+        lent[..word.len()].copy_from_slice(word);
     }
 }
 
@@ -47,46 +50,59 @@ fn put(s: &mut [u8], at: usize, width: usize, value: u64) -> u64 {
     0
 }
 
-fn answer(case: Case, a: usize, b: usize, input: &[u8], lent: &mut [u8]) -> u64 {
+fn answer<W: Write>(
+    case: Case,
+    a: usize,
+    b: usize,
+    input: &[u8],
+    lent: &mut [u8],
+    to: &mut W,
+) -> io::Result<u64> {
     let operation = case.operation;
-    match operation {
+    let status = match operation {
         0 => crc10::crc10(input, a, b) as u64,
-        1 => crc10_counts(input, a, b),
+        1 => crc10_counts(input, a, b, to)?,
         2 => crc32::crc32(input) as u64,
-        3 => crc32_lengths(input),
+        3 => crc32_lengths(input, to)?,
         4 => encode(lent),
         5 => abi_repair::repair(input, lent) as u64,
         6 => abi_repair::repair_register(input, lent) as u64,
         7 => repair_by_value(input, lent),
         8 => bit_fields::get(input, a, b),
         _ => put(lent, a, b, case.c),
-    }
+    };
+    Ok(status)
 }
 
-fn run(case: Case, input: &[u8], lent: &mut [u8]) -> bool {
+fn run<W: Write>(case: Case, input: &[u8], lent: &mut [u8], to: &mut W) -> io::Result<bool> {
     if 9 < case.operation {
-        return test_cases::wrong().found;
+        return Ok(test_cases::wrong(to)?.found);
     }
-    test_cases::hex(answer(case, case.a as usize, case.b as usize, input, lent));
-    test_cases::end_bytes(lent)
+    let status = answer(case, case.a as usize, case.b as usize, input, lent, to)?;
+    test_cases::hex(status, to)?;
+    test_cases::end_bytes(lent, to)
 }
 
 // Reads and answers case n; whether there may be a next one.
-fn turn(n: u64) -> bool {
-    let mut first = io::buffer();
-    let mut second = io::buffer();
-    let case = test_cases::next_case(n, &mut first, &mut second);
+fn turn<R: Read, W: Write>(n: u64, from: &mut R, to: &mut W) -> io::Result<bool> {
+    let mut first = test_cases::buffer();
+    let mut second = test_cases::buffer();
+    let case = test_cases::next_case(n, &mut first, &mut second, from, to)?;
     if !case.found {
-        return false;
+        return Ok(false);
     }
     let input = case.input;
     let lent = case.lent;
-    run(case, &first[24..24 + input], &mut second[0..lent])
+    run(case, &first[24..24 + input], &mut second[0..lent], to)
 }
 
-fn main() {
-    let mut n: u64 = 1;
-    while n < 1000000 && turn(n) {
-        n += 1;
+fn main(rt: HostRuntime) -> io::Result<()> {
+    let mut input = BufReader::new(rt.alloc(), rt.stdin())?;
+    let mut output = BufWriter::new(rt.alloc(), rt.stdout())?;
+    for n in 1..1000000 {
+        if !turn(n, &mut input, &mut output)? {
+            break;
+        }
     }
+    output.flush()
 }

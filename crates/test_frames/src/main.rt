@@ -1,6 +1,9 @@
 // Runs test cases of frames and records: see `test_cases`. The cases, and what they must answer, come from rust/vectors. A case's third number names the
 // edition, as a C program does.
 #![tactic(auto)]
+
+use std::io;
+use std::io::{BufReader, BufWriter, Read, Write};
 use test_cases::Case;
 
 // The edition that a case names.
@@ -9,16 +12,24 @@ fn edition(case: Case) -> u32 {
 }
 
 // Answers the reader, told the tuner that the case's second number names.
-fn frame_read(case: Case, frame: &[u8], lent: &mut [u64]) -> bool {
+fn frame_read<W: Write>(
+    case: Case,
+    frame: &[u8],
+    lent: &mut [u64],
+    to: &mut W,
+) -> io::Result<bool> {
     let tuner = (case.b % 0x100000000) as u32;
-    test_cases::hex(abi_frame::frame_read(edition(case), tuner, frame, lent) as u64);
-    test_cases::end_values(lent)
+    test_cases::hex(
+        abi_frame::frame_read(edition(case), tuner, frame, lent) as u64,
+        to,
+    )?;
+    test_cases::end_values(lent, to)
 }
 
-fn read(case: Case, frame: &[u8], bytes: &[u8]) -> bool {
+fn read<W: Write>(case: Case, frame: &[u8], bytes: &[u8], to: &mut W) -> io::Result<bool> {
     let mut lent = test_values::no_values();
     let n = test_values::values(bytes, &mut lent);
-    frame_read(case, frame, &mut lent[0..n])
+    frame_read(case, frame, &mut lent[0..n], to)
 }
 
 // The status of an operation on a record.
@@ -31,39 +42,43 @@ fn status_of(case: Case, fields: &[u64], lent: &mut [u8]) -> u64 {
 }
 
 // Answers it.
-fn answer(case: Case, input: &[u8], lent: &mut [u8]) -> bool {
+fn answer<W: Write>(case: Case, input: &[u8], lent: &mut [u8], to: &mut W) -> io::Result<bool> {
     let mut fields = test_values::no_values();
     let n = test_values::values(input, &mut fields);
-    test_cases::hex(status_of(case, &fields[0..n], lent));
-    test_cases::end_bytes(lent)
+    test_cases::hex(status_of(case, &fields[0..n], lent), to)?;
+    test_cases::end_bytes(lent, to)
 }
 
-fn run(case: Case, input: &[u8], lent: &mut [u8]) -> bool {
+fn run<W: Write>(case: Case, input: &[u8], lent: &mut [u8], to: &mut W) -> io::Result<bool> {
     if case.operation == 0 {
-        return read(case, input, lent);
+        return read(case, input, lent, to);
     }
     if case.operation < 3 {
-        return answer(case, input, lent);
+        return answer(case, input, lent, to);
     }
-    test_cases::wrong().found
+    Ok(test_cases::wrong(to)?.found)
 }
 
 // Reads and answers case n; whether there may be a next one.
-fn turn(n: u64) -> bool {
-    let mut first = io::buffer();
-    let mut second = io::buffer();
-    let case = test_cases::next_case(n, &mut first, &mut second);
+fn turn<R: Read, W: Write>(n: u64, from: &mut R, to: &mut W) -> io::Result<bool> {
+    let mut first = test_cases::buffer();
+    let mut second = test_cases::buffer();
+    let case = test_cases::next_case(n, &mut first, &mut second, from, to)?;
     if !case.found {
-        return false;
+        return Ok(false);
     }
     let input = case.input;
     let lent = case.lent;
-    run(case, &first[24..24 + input], &mut second[0..lent])
+    run(case, &first[24..24 + input], &mut second[0..lent], to)
 }
 
-fn main() {
-    let mut n: u64 = 1;
-    while n < 1000000 && turn(n) {
-        n += 1;
+fn main(rt: HostRuntime) -> io::Result<()> {
+    let mut input = BufReader::new(rt.alloc(), rt.stdin())?;
+    let mut output = BufWriter::new(rt.alloc(), rt.stdout())?;
+    for n in 1..1000000 {
+        if !turn(n, &mut input, &mut output)? {
+            break;
+        }
     }
+    output.flush()
 }

@@ -1,5 +1,8 @@
 // Runs test cases of the cable header: see `test_cases`. The cases, and what they must answer, come from rust/vectors.
 #![tactic(auto)]
+
+use std::io;
+use std::io::{BufReader, BufWriter, Read, Write};
 use test_cases::Case;
 
 fn seal(header: &mut [u8]) -> u64 {
@@ -23,7 +26,7 @@ fn no_fields() -> [u64; 145] {
 fn comes_back(fields: &[u64], header: &[u8]) -> bool {
     let mut again = zeros();
     abi_header::header_write(fields, &mut again);
-    check::same(header, &again)
+    header == again.as_slice()
 }
 
 // The refusal of a header: 254 where the reader answers another number, 255 where it is accepted and does not come back.
@@ -49,13 +52,13 @@ fn flip(header: &mut [u8], k: usize, again: u64) {
 }
 
 // The refusals of the header with each bit below a number turned over; the bit is then turned back.
-fn each_bit(header: &mut [u8], end: u64, again: u64) -> u64 {
+fn each_bit<W: Write>(header: &mut [u8], end: u64, again: u64, to: &mut W) -> io::Result<u64> {
     for k in 0..end {
         flip(header, k as usize, again);
-        test_cases::hex(refusal(header));
+        test_cases::hex(refusal(header), to)?;
         flip(header, k as usize, again);
     }
-    0
+    Ok(0)
 }
 
 // ---- the operations
@@ -67,72 +70,78 @@ fn header_write(numbers: &[u8], lent: &mut [u8]) -> u64 {
 }
 
 // The status of an operation that lends bytes.
-fn status_of(case: Case, input: &[u8], lent: &mut [u8]) -> u64 {
+fn status_of<W: Write>(case: Case, input: &[u8], lent: &mut [u8], to: &mut W) -> io::Result<u64> {
     let operation = case.operation;
-    match operation {
+    let status = match operation {
         0 => header_reader::refusal(input) as u64,
         1 => header_write(input, lent),
         2 => seal(lent),
-        _ => each_bit(lent, case.a, case.b),
-    }
+        _ => each_bit(lent, case.a, case.b, to)?,
+    };
+    Ok(status)
 }
 
 // Answers it.
-fn answer(case: Case, input: &[u8], lent: &mut [u8]) -> bool {
-    test_cases::hex(status_of(case, input, lent));
-    test_cases::end_bytes(lent)
+fn answer<W: Write>(case: Case, input: &[u8], lent: &mut [u8], to: &mut W) -> io::Result<bool> {
+    let status = status_of(case, input, lent, to)?;
+    test_cases::hex(status, to)?;
+    test_cases::end_bytes(lent, to)
 }
 
 // Answers the reader.
-fn header_read(header: &[u8], lent: &mut [u64]) -> bool {
-    test_cases::hex(abi_header::header_read(header, lent) as u64);
-    test_cases::end_values(lent)
+fn header_read<W: Write>(header: &[u8], lent: &mut [u64], to: &mut W) -> io::Result<bool> {
+    test_cases::hex(abi_header::header_read(header, lent) as u64, to)?;
+    test_cases::end_values(lent, to)
 }
 
-fn read(header: &[u8], bytes: &[u8]) -> bool {
+fn read<W: Write>(header: &[u8], bytes: &[u8], to: &mut W) -> io::Result<bool> {
     let mut lent = test_values::no_values();
     let n = test_values::values(bytes, &mut lent);
-    header_read(header, &mut lent[0..n])
+    header_read(header, &mut lent[0..n], to)
 }
 
 // Answers the reader that hands the header over by value: all its fields, on a refusal too.
-fn read_by_value(header: &[u8]) -> bool {
+fn read_by_value<W: Write>(header: &[u8], to: &mut W) -> io::Result<bool> {
     let reading = header_reader::read(header);
-    test_cases::hex(reading.number as u64);
+    test_cases::hex(reading.number as u64, to)?;
     let mut fields = no_fields();
     abi_header::put_fields(reading.header, &mut fields);
-    test_cases::end_values(&fields)
+    test_cases::end_values(&fields, to)
 }
 
-fn run(case: Case, input: &[u8], lent: &mut [u8]) -> bool {
+fn run<W: Write>(case: Case, input: &[u8], lent: &mut [u8], to: &mut W) -> io::Result<bool> {
     if case.operation < 4 {
-        return answer(case, input, lent);
+        return answer(case, input, lent, to);
     }
     if case.operation == 4 {
-        return read(input, lent);
+        return read(input, lent, to);
     }
     if case.operation == 5 {
-        return read_by_value(input);
+        return read_by_value(input, to);
     }
-    test_cases::wrong().found
+    Ok(test_cases::wrong(to)?.found)
 }
 
 // Reads and answers case n; whether there may be a next one.
-fn turn(n: u64) -> bool {
-    let mut first = io::buffer();
-    let mut second = io::buffer();
-    let case = test_cases::next_case(n, &mut first, &mut second);
+fn turn<R: Read, W: Write>(n: u64, from: &mut R, to: &mut W) -> io::Result<bool> {
+    let mut first = test_cases::buffer();
+    let mut second = test_cases::buffer();
+    let case = test_cases::next_case(n, &mut first, &mut second, from, to)?;
     if !case.found {
-        return false;
+        return Ok(false);
     }
     let input = case.input;
     let lent = case.lent;
-    run(case, &first[24..24 + input], &mut second[0..lent])
+    run(case, &first[24..24 + input], &mut second[0..lent], to)
 }
 
-fn main() {
-    let mut n: u64 = 1;
-    while n < 1000000 && turn(n) {
-        n += 1;
+fn main(rt: HostRuntime) -> io::Result<()> {
+    let mut input = BufReader::new(rt.alloc(), rt.stdin())?;
+    let mut output = BufWriter::new(rt.alloc(), rt.stdout())?;
+    for n in 1..1000000 {
+        if !turn(n, &mut input, &mut output)? {
+            break;
+        }
     }
+    output.flush()
 }

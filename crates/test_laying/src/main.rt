@@ -1,6 +1,9 @@
 // Runs test cases of laying a frame into a header and taking it out: see `test_cases`. The cases, and what they must answer, come from rust/vectors. A
 // case's third number names the edition, as a C program does.
 #![tactic(auto)]
+
+use std::io;
+use std::io::{BufReader, BufWriter, Read, Write};
 use test_cases::Case;
 
 fn answer(operation: u8, edition: u32, input: &[u8], lent: &mut [u8]) -> u64 {
@@ -10,31 +13,35 @@ fn answer(operation: u8, edition: u32, input: &[u8], lent: &mut [u8]) -> u64 {
     }
 }
 
-fn run(case: Case, input: &[u8], lent: &mut [u8]) -> bool {
+fn run<W: Write>(case: Case, input: &[u8], lent: &mut [u8], to: &mut W) -> io::Result<bool> {
     if 1 < case.operation {
-        return test_cases::wrong().found;
+        return Ok(test_cases::wrong(to)?.found);
     }
     let edition = (case.c % 0x100000000) as u32;
-    test_cases::hex(answer(case.operation, edition, input, lent));
-    test_cases::end_bytes(lent)
+    test_cases::hex(answer(case.operation, edition, input, lent), to)?;
+    test_cases::end_bytes(lent, to)
 }
 
 // Reads and answers case n; whether there may be a next one.
-fn turn(n: u64) -> bool {
-    let mut first = io::buffer();
-    let mut second = io::buffer();
-    let case = test_cases::next_case(n, &mut first, &mut second);
+fn turn<R: Read, W: Write>(n: u64, from: &mut R, to: &mut W) -> io::Result<bool> {
+    let mut first = test_cases::buffer();
+    let mut second = test_cases::buffer();
+    let case = test_cases::next_case(n, &mut first, &mut second, from, to)?;
     if !case.found {
-        return false;
+        return Ok(false);
     }
     let input = case.input;
     let lent = case.lent;
-    run(case, &first[24..24 + input], &mut second[0..lent])
+    run(case, &first[24..24 + input], &mut second[0..lent], to)
 }
 
-fn main() {
-    let mut n: u64 = 1;
-    while n < 1000000 && turn(n) {
-        n += 1;
+fn main(rt: HostRuntime) -> io::Result<()> {
+    let mut input = BufReader::new(rt.alloc(), rt.stdin())?;
+    let mut output = BufWriter::new(rt.alloc(), rt.stdout())?;
+    for n in 1..1000000 {
+        if !turn(n, &mut input, &mut output)? {
+            break;
+        }
     }
+    output.flush()
 }

@@ -1,6 +1,9 @@
 // Runs test cases of the day's ledger: see `test_cases`. The cases, and what they must answer, come from rust/vectors. A case's third number names the
 // edition, as a C program does; a ledger is a slice of numbers.
 #![tactic(auto)]
+
+use std::io;
+use std::io::{BufReader, BufWriter, Read, Write};
 use test_cases::Case;
 
 // The status of an operation that is lent a ledger.
@@ -13,15 +16,15 @@ fn lent_status(case: Case, input: &[u8], lent: &mut [u64]) -> u64 {
 }
 
 // Answers it.
-fn answer(case: Case, input: &[u8], lent: &mut [u64]) -> bool {
-    test_cases::hex(lent_status(case, input, lent));
-    test_cases::end_values(lent)
+fn answer<W: Write>(case: Case, input: &[u8], lent: &mut [u64], to: &mut W) -> io::Result<bool> {
+    test_cases::hex(lent_status(case, input, lent), to)?;
+    test_cases::end_values(lent, to)
 }
 
-fn lent_ledger(case: Case, input: &[u8], bytes: &[u8]) -> bool {
+fn lent_ledger<W: Write>(case: Case, input: &[u8], bytes: &[u8], to: &mut W) -> io::Result<bool> {
     let mut lent = test_values::no_values();
     let n = test_values::values(bytes, &mut lent);
-    answer(case, input, &mut lent[0..n])
+    answer(case, input, &mut lent[0..n], to)
 }
 
 // The status of an operation on a ledger.
@@ -33,38 +36,42 @@ fn status_of(case: Case, ledger: &[u64], lent: &mut [u8]) -> u64 {
 }
 
 // Answers it.
-fn ledger(case: Case, input: &[u8], lent: &mut [u8]) -> bool {
+fn ledger<W: Write>(case: Case, input: &[u8], lent: &mut [u8], to: &mut W) -> io::Result<bool> {
     let mut numbers = test_values::no_values();
     let n = test_values::values(input, &mut numbers);
-    test_cases::hex(status_of(case, &numbers[0..n], lent));
-    test_cases::end_bytes(lent)
+    test_cases::hex(status_of(case, &numbers[0..n], lent), to)?;
+    test_cases::end_bytes(lent, to)
 }
 
-fn run(case: Case, input: &[u8], lent: &mut [u8]) -> bool {
+fn run<W: Write>(case: Case, input: &[u8], lent: &mut [u8], to: &mut W) -> io::Result<bool> {
     let operation = case.operation;
     match operation {
-        0 | 3 => lent_ledger(case, input, lent),
-        1 | 2 => ledger(case, input, lent),
-        _ => test_cases::wrong().found,
+        0 | 3 => lent_ledger(case, input, lent, to),
+        1 | 2 => ledger(case, input, lent, to),
+        _ => Ok(test_cases::wrong(to)?.found),
     }
 }
 
 // Reads and answers case n; whether there may be a next one.
-fn turn(n: u64) -> bool {
-    let mut first = io::buffer();
-    let mut second = io::buffer();
-    let case = test_cases::next_case(n, &mut first, &mut second);
+fn turn<R: Read, W: Write>(n: u64, from: &mut R, to: &mut W) -> io::Result<bool> {
+    let mut first = test_cases::buffer();
+    let mut second = test_cases::buffer();
+    let case = test_cases::next_case(n, &mut first, &mut second, from, to)?;
     if !case.found {
-        return false;
+        return Ok(false);
     }
     let input = case.input;
     let lent = case.lent;
-    run(case, &first[24..24 + input], &mut second[0..lent])
+    run(case, &first[24..24 + input], &mut second[0..lent], to)
 }
 
-fn main() {
-    let mut n: u64 = 1;
-    while n < 1000000 && turn(n) {
-        n += 1;
+fn main(rt: HostRuntime) -> io::Result<()> {
+    let mut input = BufReader::new(rt.alloc(), rt.stdin())?;
+    let mut output = BufWriter::new(rt.alloc(), rt.stdout())?;
+    for n in 1..1000000 {
+        if !turn(n, &mut input, &mut output)? {
+            break;
+        }
     }
+    output.flush()
 }

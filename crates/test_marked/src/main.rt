@@ -2,6 +2,9 @@
 // slice is a frame and its marks, the frame as long as the case's first number says; the second number names the tuner and the third one the edition, as
 // a C program does.
 #![tactic(auto)]
+
+use std::io;
+use std::io::{BufReader, BufWriter, Read, Write};
 use test_cases::Case;
 
 // The edition that a case names.
@@ -20,56 +23,78 @@ fn status_of(case: Case, frame: &[u8], marks: &[u8], lent: &mut [u8]) -> u64 {
 }
 
 // Answers the reader, told the tuner that the case names.
-fn frame_read_marked(case: Case, frame: &[u8], marks: &[u8], lent: &mut [u64]) -> bool {
+fn frame_read_marked<W: Write>(
+    case: Case,
+    frame: &[u8],
+    marks: &[u8],
+    lent: &mut [u64],
+    to: &mut W,
+) -> io::Result<bool> {
     let tuner = (case.b % 0x100000000) as u32;
     let status = abi_marked_frame::frame_read_marked(edition(case), tuner, frame, marks, lent);
-    test_cases::hex(status as u64);
-    test_cases::end_values(lent)
+    test_cases::hex(status as u64, to)?;
+    test_cases::end_values(lent, to)
 }
 
-fn read(case: Case, frame: &[u8], marks: &[u8], bytes: &[u8]) -> bool {
+fn read<W: Write>(
+    case: Case,
+    frame: &[u8],
+    marks: &[u8],
+    bytes: &[u8],
+    to: &mut W,
+) -> io::Result<bool> {
     let mut lent = test_values::no_values();
     let n = test_values::values(bytes, &mut lent);
-    frame_read_marked(case, frame, marks, &mut lent[0..n])
+    frame_read_marked(case, frame, marks, &mut lent[0..n], to)
 }
 
 // Answers a case of this frame and these marks.
-fn run(case: Case, frame: &[u8], marks: &[u8], lent: &mut [u8]) -> bool {
+fn run<W: Write>(
+    case: Case,
+    frame: &[u8],
+    marks: &[u8],
+    lent: &mut [u8],
+    to: &mut W,
+) -> io::Result<bool> {
     if 3 < case.operation {
-        return test_cases::wrong().found;
+        return Ok(test_cases::wrong(to)?.found);
     }
     if case.operation == 3 {
-        return read(case, frame, marks, lent);
+        return read(case, frame, marks, lent, to);
     }
-    test_cases::hex(status_of(case, frame, marks, lent));
-    test_cases::end_bytes(lent)
+    test_cases::hex(status_of(case, frame, marks, lent), to)?;
+    test_cases::end_bytes(lent, to)
 }
 
 // The frame and the marks out of one slice.
-fn split(case: Case, input: &[u8], lent: &mut [u8]) -> bool {
+fn split<W: Write>(case: Case, input: &[u8], lent: &mut [u8], to: &mut W) -> io::Result<bool> {
     let at = case.a as usize;
     if input.len() < at {
-        return test_cases::wrong().found;
+        return Ok(test_cases::wrong(to)?.found);
     }
-    run(case, &input[0..at], &input[at..], lent)
+    run(case, &input[0..at], &input[at..], lent, to)
 }
 
 // Reads and answers case n; whether there may be a next one.
-fn turn(n: u64) -> bool {
-    let mut first = io::buffer();
-    let mut second = io::buffer();
-    let case = test_cases::next_case(n, &mut first, &mut second);
+fn turn<R: Read, W: Write>(n: u64, from: &mut R, to: &mut W) -> io::Result<bool> {
+    let mut first = test_cases::buffer();
+    let mut second = test_cases::buffer();
+    let case = test_cases::next_case(n, &mut first, &mut second, from, to)?;
     if !case.found {
-        return false;
+        return Ok(false);
     }
     let input = case.input;
     let lent = case.lent;
-    split(case, &first[24..24 + input], &mut second[0..lent])
+    split(case, &first[24..24 + input], &mut second[0..lent], to)
 }
 
-fn main() {
-    let mut n: u64 = 1;
-    while n < 1000000 && turn(n) {
-        n += 1;
+fn main(rt: HostRuntime) -> io::Result<()> {
+    let mut input = BufReader::new(rt.alloc(), rt.stdin())?;
+    let mut output = BufWriter::new(rt.alloc(), rt.stdout())?;
+    for n in 1..1000000 {
+        if !turn(n, &mut input, &mut output)? {
+            break;
+        }
     }
+    output.flush()
 }

@@ -1,27 +1,43 @@
 // Runs test cases of reports and places, doubles by their bits: see `test_cases`. The cases, and what they must answer, come from rust/vectors. The third
 // number of a report names the edition, as a C program does.
 #![tactic(auto)]
+
+use std::io;
+use std::io::{BufReader, BufWriter, Read, Write};
 use test_cases::Case;
 
-fn put_doubles(s: &[f64; 4]) {
+fn put_doubles<W: Write>(s: &[f64; 4], to: &mut W) -> io::Result<()> {
     for i in 0..4 {
-        test_cases::hex(test_values::bits_of(s[i]));
+        test_cases::hex(test_values::bits_of(s[i]), to)?;
     }
+    Ok(())
 }
 
 // Lends so many of four doubles, and tells them all.
-fn lend_doubles(edition: u32, fields: &[u64], before: f64, lent: usize) -> u64 {
+fn lend_doubles<W: Write>(
+    edition: u32,
+    fields: &[u64],
+    before: f64,
+    lent: usize,
+    to: &mut W,
+) -> io::Result<u64> {
     let mut place = [before; 4];
     let n = numbers::smaller(lent, 4);
     let status = abi_place::report(edition, fields, &mut place[0..n]) as u64;
-    put_doubles(&place);
-    status
+    put_doubles(&place, to)?;
+    Ok(status)
 }
 
-fn report(edition: u32, numbers: &[u8], before: f64, lent: usize) -> u64 {
+fn report<W: Write>(
+    edition: u32,
+    numbers: &[u8],
+    before: f64,
+    lent: usize,
+    to: &mut W,
+) -> io::Result<u64> {
     let mut fields = test_values::no_values();
     let n = test_values::values(numbers, &mut fields);
-    lend_doubles(edition, &fields[0..n], before, lent)
+    lend_doubles(edition, &fields[0..n], before, lent, to)
 }
 
 fn desk(a: u64, b: u64, c: u64, lent: &mut [u64]) -> u64 {
@@ -49,64 +65,71 @@ fn longitude_of(bits: u64) -> u64 {
 
 // What the desk makes of the images of the tenths from a number on, with some of their bits turned over, into the lent numbers; the status is the sum of the images' bits.
 fn longitudes(flag: u64, first: u64, turned: u64, out: &mut [u64]) -> u64 {
-    let mut sum = 0;
+    let mut sum: u64 = 0;
     for i in 0..out.len() {
-        let image = degrees(flag, std::num::wrapping_add_u64(first, i as u64));
+        let image = degrees(flag, first.wrapping_add(i as u64));
         out[i] = longitude_of(image ^ turned);
-        sum = std::num::wrapping_add_u64(sum, image);
+        sum = sum.wrapping_add(image);
     }
     sum
 }
 
 // ---- the operations
 
-fn status_of(case: Case, input: &[u8], lent: &mut [u64]) -> u64 {
+fn status_of<W: Write>(case: Case, input: &[u8], lent: &mut [u64], to: &mut W) -> io::Result<u64> {
     let operation = case.operation;
-    match operation {
+    let status = match operation {
         0 => report(
             (case.c % 0x100000000) as u32,
             input,
             test_values::double(case.a),
             case.b as usize,
-        ),
+            to,
+        )?,
         1 => desk(case.a, case.b, case.c, lent),
         2 => degrees(case.a, case.b),
         3 => test_values::bits_of(place_images::kilometres(case.a)),
         _ => longitudes(case.a, case.b, case.c, lent),
-    }
+    };
+    Ok(status)
 }
 
 // Answers an operation, which lends numbers.
-fn lending(case: Case, input: &[u8], lent: &mut [u64]) -> bool {
-    test_cases::hex(status_of(case, input, lent));
-    test_cases::end_values(lent)
+fn lending<W: Write>(case: Case, input: &[u8], lent: &mut [u64], to: &mut W) -> io::Result<bool> {
+    let status = status_of(case, input, lent, to)?;
+    test_cases::hex(status, to)?;
+    test_cases::end_values(lent, to)
 }
 
-fn run(case: Case, input: &[u8], bytes: &[u8]) -> bool {
+fn run<W: Write>(case: Case, input: &[u8], bytes: &[u8], to: &mut W) -> io::Result<bool> {
     if 4 < case.operation {
-        return test_cases::wrong().found;
+        return Ok(test_cases::wrong(to)?.found);
     }
     let mut lent = test_values::no_values();
     let n = test_values::values(bytes, &mut lent);
-    lending(case, input, &mut lent[0..n])
+    lending(case, input, &mut lent[0..n], to)
 }
 
 // Reads and answers case n; whether there may be a next one.
-fn turn(n: u64) -> bool {
-    let mut first = io::buffer();
-    let mut second = io::buffer();
-    let case = test_cases::next_case(n, &mut first, &mut second);
+fn turn<R: Read, W: Write>(n: u64, from: &mut R, to: &mut W) -> io::Result<bool> {
+    let mut first = test_cases::buffer();
+    let mut second = test_cases::buffer();
+    let case = test_cases::next_case(n, &mut first, &mut second, from, to)?;
     if !case.found {
-        return false;
+        return Ok(false);
     }
     let input = case.input;
     let lent = case.lent;
-    run(case, &first[24..24 + input], &second[0..lent])
+    run(case, &first[24..24 + input], &second[0..lent], to)
 }
 
-fn main() {
-    let mut n: u64 = 1;
-    while n < 1000000 && turn(n) {
-        n += 1;
+fn main(rt: HostRuntime) -> io::Result<()> {
+    let mut input = BufReader::new(rt.alloc(), rt.stdin())?;
+    let mut output = BufWriter::new(rt.alloc(), rt.stdout())?;
+    for n in 1..1000000 {
+        if !turn(n, &mut input, &mut output)? {
+            break;
+        }
     }
+    output.flush()
 }

@@ -1,7 +1,9 @@
 // The report of no frames.
 #![tactic(auto)]
-use frame::Edition;
 
-fn main() {
-    ledger_io::run(Edition::First);
+use frame::Edition;
+use std::io;
+
+fn main(rt: HostRuntime) -> io::Result<()> {
+    ledger_io::run(Edition::First, &mut rt.stdin(), &mut rt.stdout())
 }

@@ -1,9 +1,12 @@
 // Runs test cases of the follower and of the captures: see `test_cases`. The cases, and what they must answer, come from rust/vectors. A case's third
 // number names the edition, as a C program does.
 #![tactic(auto)]
+
 use follower::Follower;
 use follower_events::{Event, Kind};
 use frame::Edition;
+use std::io;
+use std::io::{BufReader, BufWriter, Read, Write};
 use test_cases::Case;
 
 // ---- the follower from any update number: a state is a kind, 0 quiet, 1 real, 2 test, 3 safety, 4 safety test, and an update number
@@ -18,21 +21,21 @@ fn state_of(kind: u64, update: u64) -> Follower {
     }
 }
 
-fn put_kind(kind: Kind) {
+fn put_kind<W: Write>(kind: Kind, to: &mut W) -> io::Result<()> {
     match kind {
-        Kind::Real => test_cases::hex(1),
-        Kind::Test => test_cases::hex(2),
-        Kind::Safety => test_cases::hex(3),
-        Kind::SafetyTest => test_cases::hex(4),
+        Kind::Real => test_cases::hex(1, to),
+        Kind::Test => test_cases::hex(2, to),
+        Kind::Safety => test_cases::hex(3, to),
+        Kind::SafetyTest => test_cases::hex(4, to),
     }
 }
 
-fn put_state(state: Follower) {
+fn put_state<W: Write>(state: Follower, to: &mut W) -> io::Result<()> {
     match state {
-        Follower::Quiet => test_cases::hex(0),
+        Follower::Quiet => test_cases::hex(0, to),
         Follower::Active(kind, update) => {
-            put_kind(kind);
-            test_cases::hex(update);
+            put_kind(kind, to)?;
+            test_cases::hex(update, to)
         }
     }
 }
@@ -50,17 +53,17 @@ fn event_number(event: Event) -> u64 {
 }
 
 // The next state is told before the event.
-fn step(edition: Edition, state: Follower, frame: &[u8]) -> u64 {
+fn step<W: Write>(edition: Edition, state: Follower, frame: &[u8], to: &mut W) -> io::Result<u64> {
     let step = frame_follower::step(edition, state, frame);
     let event = step.event;
     let next = step.next;
-    put_state(next);
-    event_number(event)
+    put_state(next, to)?;
+    Ok(event_number(event))
 }
 
-fn reset(state: Follower) -> u64 {
-    put_state(state.reset());
-    0
+fn reset<W: Write>(state: Follower, to: &mut W) -> io::Result<u64> {
+    put_state(state.reset(), to)?;
+    Ok(0)
 }
 
 // ---- the captures stand one after the other, the main one of so many bytes
@@ -75,7 +78,7 @@ fn frame_at<'a>(
 ) -> u64 {
     let frame = capture::frame_at(edition, main, spare, n);
     if frame.len() <= lent.len() {
-        bytes::copy(frame, lent);
+        lent[..frame.len()].copy_from_slice(frame);
     }
     frame.len() as u64
 }
@@ -101,45 +104,58 @@ fn captures(case: Case, edition: u32, input: &[u8], lent: &mut [u8]) -> u64 {
 
 // ---- the operations
 
-fn answer(case: Case, edition: u32, input: &[u8], lent: &mut [u8]) -> u64 {
+fn answer<W: Write>(
+    case: Case,
+    edition: u32,
+    input: &[u8],
+    lent: &mut [u8],
+    to: &mut W,
+) -> io::Result<u64> {
     let operation = case.operation;
-    match operation {
+    let status = match operation {
         0 => abi_receiver::follow(edition, (case.a % 0x100000000) as u32, input) as u64,
         1 => step(
             abi_edition::edition_of(edition),
             state_of(case.a, case.b),
             input,
-        ),
-        2 => reset(state_of(case.a, case.b)),
+            to,
+        )?,
+        2 => reset(state_of(case.a, case.b), to)?,
         _ => captures(case, edition, input, lent),
-    }
+    };
+    Ok(status)
 }
 
-fn run(case: Case, input: &[u8], lent: &mut [u8]) -> bool {
+fn run<W: Write>(case: Case, input: &[u8], lent: &mut [u8], to: &mut W) -> io::Result<bool> {
     if 5 < case.operation {
-        return test_cases::wrong().found;
+        return Ok(test_cases::wrong(to)?.found);
     }
     let edition = (case.c % 0x100000000) as u32;
-    test_cases::hex(answer(case, edition, input, lent));
-    test_cases::end_bytes(lent)
+    let status = answer(case, edition, input, lent, to)?;
+    test_cases::hex(status, to)?;
+    test_cases::end_bytes(lent, to)
 }
 
 // Reads and answers case n; whether there may be a next one.
-fn turn(n: u64) -> bool {
-    let mut first = io::buffer();
-    let mut second = io::buffer();
-    let case = test_cases::next_case(n, &mut first, &mut second);
+fn turn<R: Read, W: Write>(n: u64, from: &mut R, to: &mut W) -> io::Result<bool> {
+    let mut first = test_cases::buffer();
+    let mut second = test_cases::buffer();
+    let case = test_cases::next_case(n, &mut first, &mut second, from, to)?;
     if !case.found {
-        return false;
+        return Ok(false);
     }
     let input = case.input;
     let lent = case.lent;
-    run(case, &first[24..24 + input], &mut second[0..lent])
+    run(case, &first[24..24 + input], &mut second[0..lent], to)
 }
 
-fn main() {
-    let mut n: u64 = 1;
-    while n < 1000000 && turn(n) {
-        n += 1;
+fn main(rt: HostRuntime) -> io::Result<()> {
+    let mut input = BufReader::new(rt.alloc(), rt.stdin())?;
+    let mut output = BufWriter::new(rt.alloc(), rt.stdout())?;
+    for n in 1..1000000 {
+        if !turn(n, &mut input, &mut output)? {
+            break;
+        }
     }
+    output.flush()
 }

@@ -1,11 +1,14 @@
 // Runs test cases of the records that two captures and the desk give: see `test_cases`. The cases, and what they must answer, come from rust/vectors. A
 // case's third number names the edition, as a C program does.
 #![tactic(auto)]
+
 use abi_record::VALUES;
 use capture_reader::CaptureReading;
 use desk_record::{DeskRecord, DeskWarning};
 use frame::{Edition, Record};
 use place::Place;
+use std::io;
+use std::io::{BufReader, BufWriter, Read, Write};
 use test_cases::Case;
 
 // A record's values go into the lent numbers, if there are as many.
@@ -85,36 +88,40 @@ fn status_of(case: Case, input: &[u8], lent: &mut [u64]) -> u64 {
 }
 
 // Answers an operation, which lends numbers.
-fn lending(case: Case, input: &[u8], lent: &mut [u64]) -> bool {
-    test_cases::hex(status_of(case, input, lent));
-    test_cases::end_values(lent)
+fn lending<W: Write>(case: Case, input: &[u8], lent: &mut [u64], to: &mut W) -> io::Result<bool> {
+    test_cases::hex(status_of(case, input, lent), to)?;
+    test_cases::end_values(lent, to)
 }
 
-fn run(case: Case, input: &[u8], bytes: &[u8]) -> bool {
+fn run<W: Write>(case: Case, input: &[u8], bytes: &[u8], to: &mut W) -> io::Result<bool> {
     if 1 < case.operation {
-        return test_cases::wrong().found;
+        return Ok(test_cases::wrong(to)?.found);
     }
     let mut lent = test_values::no_values();
     let n = test_values::values(bytes, &mut lent);
-    lending(case, input, &mut lent[0..n])
+    lending(case, input, &mut lent[0..n], to)
 }
 
 // Reads and answers case n; whether there may be a next one.
-fn turn(n: u64) -> bool {
-    let mut first = io::buffer();
-    let mut second = io::buffer();
-    let case = test_cases::next_case(n, &mut first, &mut second);
+fn turn<R: Read, W: Write>(n: u64, from: &mut R, to: &mut W) -> io::Result<bool> {
+    let mut first = test_cases::buffer();
+    let mut second = test_cases::buffer();
+    let case = test_cases::next_case(n, &mut first, &mut second, from, to)?;
     if !case.found {
-        return false;
+        return Ok(false);
     }
     let input = case.input;
     let lent = case.lent;
-    run(case, &first[24..24 + input], &second[0..lent])
+    run(case, &first[24..24 + input], &second[0..lent], to)
 }
 
-fn main() {
-    let mut n: u64 = 1;
-    while n < 1000000 && turn(n) {
-        n += 1;
+fn main(rt: HostRuntime) -> io::Result<()> {
+    let mut input = BufReader::new(rt.alloc(), rt.stdin())?;
+    let mut output = BufWriter::new(rt.alloc(), rt.stdout())?;
+    for n in 1..1000000 {
+        if !turn(n, &mut input, &mut output)? {
+            break;
+        }
     }
+    output.flush()
 }

@@ -1,0 +1,11 @@
+-- A buffer that is filled part by part. Assumes nothing.
+use Rattle.std.proofs.Common.{◌≡◌, ℕ, ◌+◌, ◌≤◌, List, ◌++◌, sym, ap, ◌∙◌, length, take, length-take-le}
+use lib.Seq.{take-append-add, take-append-le}
+use borrow.Rule.Slice.PartMut.{put_mid, post_of}
+
+-- the part that is filled grows by the bytes that were read behind it
+pub part-read : (a k n : ℕ) (xs ys : List ℕ) → a ≤ length xs → n ≤ length ys → take a xs ++ take n ys ≡ take (a + n) (put_mid a k xs ys)
+part-read a k n xs ys h m =
+    let rest = post_of a k xs in
+    ap (λ l. take a xs ++ l) (sym (take-append-le n ys rest m)) ∙ sym (take-append-add (take a xs) (ys ++ rest) n)
+    ∙ ap (λ i. take (i + n) (put_mid a k xs ys)) (length-take-le a xs h)
