@@ -1,4 +1,4 @@
-use Rattle.std.proofs.Common.{rules, ◌≡◌, ◌≤◌, arith, ap, length, length-take}
+use Rattle.std.proofs.Common.{rules, ◌≡◌, arith, ap, length, length-take}
 use Rattle.ledger.proofs.Reports.{report-most}
 use Rattle.ledger_printer.specs.declared.ReportLength.{ReportLength}
 use Rattle.ledger_io.proofs.Written.{report-put}

@@ -1,4 +1,4 @@
-use Rattle.std.proofs.Common.{rules, ◌≡◌, ◌≤◌, arith, sym, ap, subst, IfSome, length}
+use Rattle.std.proofs.Common.{rules, arith, sym, ap, subst, IfSome}
 use Rattle.ledger_input.specs.Input.{Standing}
 use Rattle.ledger_input.specs.declared.LedgerTurn.{LedgerTurn}
 use Rattle.ledger_input.proofs.Turns.{begins as stands}

@@ -1,4 +1,4 @@
-use Rattle.std.proofs.Common.{rules, ◌≡◌, ◌≤◌, arith, length, length-take}
+use Rattle.std.proofs.Common.{rules, ◌≡◌, arith, length, length-take}
 use Rattle.ledger.proofs.Reports.{report-most}
 use Rattle.ledger_io.proofs.write_report.Goals as goal
 

@@ -1,4 +1,4 @@
-use Rattle.std.proofs.Common.{rules, ◌≤◌, arith, length-take}
+use Rattle.std.proofs.Common.{arith, length-take}
 use Rattle.listing_turns.proofs.Ahead.{told-ahead}
 use Rattle.listing_io.proofs.next.Goals as goal
 

@@ -1,6 +1,5 @@
-use Rattle.std.proofs.Common.{rules, ◌≡◌, ◌≤◌, arith, sym, ap, subst, IfSome, length, ⊎_elim}
+use Rattle.std.proofs.Common.{rules, arith, sym, ap, subst, IfSome, ⊎_elim}
 use Rattle.listing_turns.proofs.Ahead.{told-ahead}
-use Rattle.listing_turns.specs.Turns.{start}
 use Rattle.listing_turns.specs.declared.Turn.{Turn}
 use Rattle.listing_io.proofs.Text.{SoFar, begins, goes-on, ends}
 use Rattle.listing_io.proofs.run.Goals as goal
