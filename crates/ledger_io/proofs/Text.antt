@@ -1,12 +1,10 @@
 -- The report is that of all that the reader gives. Assumes nothing.
-use Rattle.std.proofs.Common.{◌≡◌, ◌≢◌, refl, sym, ap, ◌∙◌, subst, ℕ, zero, suc, ◌≤◌, List, ◌++◌, Option, None, Some, IfSome, Result, Ok, Err, OnOk, arith, take, drop, eq-eqb, ne_eqb}
+use Rattle.std.proofs.Common.{◌≡◌, ◌≢◌, refl, sym, ap, ◌∙◌, subst, ℕ, zero, suc, ◌≤◌, List, Option, None, Some, IfSome, Result, Ok, Err, OnOk, arith, take, drop, eq-eqb, ne_eqb}
 use Rattle.std.specs.Io.KnownBytes.{Appends}
 use Rattle.frame.specs.declared.Edition.{Edition}
 use Rattle.ledger.specs.Report.{length_of}
-use Rattle.ledger.specs.declared.Ledger.{Ledger}
-use Rattle.ledger_input.specs.Input.{turns_at_most, start, turn_after, program_turn, input_ledger, input_report, program_text, with_report}
+use Rattle.ledger_input.specs.Input.{turns_at_most, start, program_turn, input_ledger, input_report, program_text, with_report}
 use Rattle.ledger_input.specs.declared.LedgerTurn.{LedgerTurn}
-use Rattle.ledger_input.specs.Promises.{LedgerTurns}
 use Rattle.ledger_input.proofs.Promises.{ledger-turns}
 use Rattle.ledger_io.specs.Reading.{Follows, Reports}
 

@@ -7,7 +7,6 @@ use Rattle.listing.specs.Lines.{listing_of}
 use Rattle.listing.specs.declared.Pieces.{Pieces}
 use Rattle.listing_turns.specs.Turns.{turns_at_most, start, program_text}
 use Rattle.listing_turns.specs.declared.Turn.{Turn}
-use Rattle.listing_turns.specs.Promises.{ListingTurns}
 use Rattle.listing_turns.proofs.Promises.{listing-turns}
 use Rattle.listing_io.specs.Reading.{Follows}
 
