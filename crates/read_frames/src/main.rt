@@ -3,15 +3,11 @@
 
 use frame::Edition;
 use std::io;
-use std::io::{BufReader, BufWriter, Write};
 
 fn main(rt: HostRuntime) -> io::Result<()> {
-    let mut input = BufReader::new(rt.alloc(), rt.stdin())?;
-    let mut output = BufWriter::new(rt.alloc(), rt.stdout())?;
     frame_text::run(
         frame_text::Question::Read(Edition::First),
-        &mut input,
-        &mut output,
-    )?;
-    output.flush()
+        &mut rt.stdin(),
+        &mut rt.stdout(),
+    )
 }

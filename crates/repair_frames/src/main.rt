@@ -2,11 +2,11 @@
 #![tactic(auto)]
 
 use std::io;
-use std::io::{BufReader, BufWriter, Write};
 
 fn main(rt: HostRuntime) -> io::Result<()> {
-    let mut input = BufReader::new(rt.alloc(), rt.stdin())?;
-    let mut output = BufWriter::new(rt.alloc(), rt.stdout())?;
-    frame_text::run(frame_text::Question::Repair, &mut input, &mut output)?;
-    output.flush()
+    frame_text::run(
+        frame_text::Question::Repair,
+        &mut rt.stdin(),
+        &mut rt.stdout(),
+    )
 }

@@ -3,7 +3,7 @@
 
 use dsc::Outcome;
 use std::io;
-use std::io::{BufReader, BufWriter, Read, Write};
+use std::io::{Read, Write};
 use test_cases::Case;
 
 // The CRC-10 from a bit on, of no bit, of one, and so on; and of all of them.
@@ -97,12 +97,12 @@ fn turn<R: Read, W: Write>(n: u64, from: &mut R, to: &mut W) -> io::Result<bool>
 }
 
 fn main(rt: HostRuntime) -> io::Result<()> {
-    let mut input = BufReader::new(rt.alloc(), rt.stdin())?;
-    let mut output = BufWriter::new(rt.alloc(), rt.stdout())?;
+    let mut input = rt.stdin();
+    let mut output = rt.stdout();
     for n in 1..1000000 {
         if !turn(n, &mut input, &mut output)? {
             break;
         }
     }
-    output.flush()
+    Ok(())
 }

@@ -3,7 +3,7 @@
 #![tactic(auto)]
 
 use std::io;
-use std::io::{BufReader, BufWriter, Read, Write};
+use std::io::{Read, Write};
 use test_cases::Case;
 
 fn put_doubles<W: Write>(s: &[f64; 4], to: &mut W) -> io::Result<()> {
@@ -124,12 +124,12 @@ fn turn<R: Read, W: Write>(n: u64, from: &mut R, to: &mut W) -> io::Result<bool>
 }
 
 fn main(rt: HostRuntime) -> io::Result<()> {
-    let mut input = BufReader::new(rt.alloc(), rt.stdin())?;
-    let mut output = BufWriter::new(rt.alloc(), rt.stdout())?;
+    let mut input = rt.stdin();
+    let mut output = rt.stdout();
     for n in 1..1000000 {
         if !turn(n, &mut input, &mut output)? {
             break;
         }
     }
-    output.flush()
+    Ok(())
 }

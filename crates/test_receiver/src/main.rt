@@ -6,7 +6,7 @@ use follower::Follower;
 use follower_events::{Event, Kind};
 use frame::Edition;
 use std::io;
-use std::io::{BufReader, BufWriter, Read, Write};
+use std::io::{Read, Write};
 use test_cases::Case;
 
 // ---- the follower from any update number: a state is a kind, 0 quiet, 1 real, 2 test, 3 safety, 4 safety test, and an update number
@@ -150,12 +150,12 @@ fn turn<R: Read, W: Write>(n: u64, from: &mut R, to: &mut W) -> io::Result<bool>
 }
 
 fn main(rt: HostRuntime) -> io::Result<()> {
-    let mut input = BufReader::new(rt.alloc(), rt.stdin())?;
-    let mut output = BufWriter::new(rt.alloc(), rt.stdout())?;
+    let mut input = rt.stdin();
+    let mut output = rt.stdout();
     for n in 1..1000000 {
         if !turn(n, &mut input, &mut output)? {
             break;
         }
     }
-    output.flush()
+    Ok(())
 }
