@@ -1,6 +1,7 @@
 -- `listing_verdicts::judge_piece` meets its contract. Assumes nothing.
 use native.Mathlib.Omega.{arith}
 use lib.ListN.{length-take}
+use borrow.Author.Rules.{rules}
 use Rattle.listing_verdicts.proofs.Judging.{frame-judged, marked-judged}
 use Rattle.listing_verdicts.proofs.judge_piece.Goals as goal
 
@@ -8,7 +9,7 @@ pub slice_bounds-judge_marked-end : goal.slice_bounds-judge_marked-end
 slice_bounds-judge_marked-end c = simp length-take (omega arith)
 
 pub returns-in-Frames : goal.returns-in-Frames
-returns-in-Frames c = frame-judged _ _ _ _ c.in-Frames.is c.judge.ensures
+returns-in-Frames c = frame-judged c.args.edition c.args.pieces c.args.piece.now _ c.in-Frames.is (search rules)
 
 pub returns-in-MarkedFrames : goal.returns-in-MarkedFrames
 returns-in-MarkedFrames c =
