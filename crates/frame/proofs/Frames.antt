@@ -23,8 +23,7 @@ use Rattle.dsc.specs.Repair.{protected, word_bytes}
 use Rattle.dsc.proofs.Word.{length-word, length-parity, parity-word}
 use Rattle.dsc.proofs.Answers.{length-word_bytes, protected-word_bytes}
 use Rattle.dsc.proofs.Weight.{weight-zeros}
-use Rattle.sync_pattern.specs.Pattern.{pattern_bits, sync_of}
-use Rattle.sync_pattern.specs.declared.Sync.TheVariants.{Fits}
+use Rattle.sync_pattern.specs.Pattern.{pattern_bits, fit_with, sync_of}
 use Rattle.sync_pattern.proofs.Patterns.{length-pattern}
 use Rattle.sync_pattern.proofs.Promises.{pattern-test}
 use Rattle.frame.specs.Identification.{class_of, start_end_of, update_of, flags_wrong, is_undefined}
@@ -70,7 +69,7 @@ flags-right Undefined u = rw (eq-eqb u u refl)
 -- n bits of B1 to B16 differ from the record's pattern
 pub record Outside (r : Record) (n : ℕ) (f : List ℕ) : Type 0 where
   pub reference : field_at f 0 1 ≡ r.reference
-  pub sync : sync_in f ≡ Fits r.pattern n
+  pub sync : sync_in f ≡ fit_with r.pattern n
   pub filler : field_at f 204 4 ≡ 0
 
 -- the order of the tests after the repair; it stands before the laws that go through them, so that another order is refused here

@@ -18,7 +18,6 @@ use Rattle.dsc.specs.declared.Answer.{Answer}
 use Rattle.dsc.proofs.MarkedAnswers.{whole-frame, marked-whole, marks-short, sized-whole}
 use Rattle.dsc.proofs.DoubtfulMarks.{doubtful-marks}
 use Rattle.sync_pattern.specs.Pattern.{sync_of, sync_number}
-use Rattle.sync_pattern.specs.declared.Sync.{Sync}
 use Rattle.frame.specs.Read.{sync_bits, sync_in, after_repair, refusal_by, places_by, judge_by, read_by, clean_by, cleaned_by}
 use Rattle.frame.specs.Promises.{SameOutside, SameAnswers, MarkedReading}
 use Rattle.frame.specs.declared.Edition.{Edition}

@@ -8,6 +8,7 @@ use native.Mathlib.Omega.{arith}
 use lib.Dec.{eqb}
 use lib.ListN.{length, take, drop, get_or, length-append, length-drop}
 use borrow.Author.Tests.{eq-eqb, ne_eqb, eqb-true, eqb-false, not-true}
+use Rattle.std.specs.Prelude.{Option}
 use Rattle.bits.specs.Bits.{odd, bits_of, bits, bytes, Bytes}
 use Rattle.bits.specs.Field.{field_at}
 use Rattle.bits.proofs.Bits.{value-take-lt, length-bytes, bits-bytes, bits-inj, bytes-Bytes}
@@ -24,7 +25,7 @@ use Rattle.dsc.proofs.Answers.{length-protected, protected-word_bytes, repair-fo
 use Rattle.dsc.proofs.MarkedAnswers.{sized-whole, found-by, hits-sent}
 use Rattle.sync_pattern.specs.Pattern.{pattern_bits, differing_from, sync_number, fitting_pattern}
 use Rattle.sync_pattern.specs.Promises.{FarFromBoth, Fitting}
-use Rattle.sync_pattern.specs.declared.Sync.{Sync}
+use Rattle.sync_pattern.specs.declared.Fit.{Fit}
 use Rattle.sync_pattern.proofs.Patterns.{differing-dist, fitting-none}
 use Rattle.sync_pattern.proofs.Promises.{pattern-test}
 use Rattle.frame.specs.Body.{row}
@@ -331,7 +332,7 @@ module _ (ed : Edition) (q : Marking) where
   no-pattern f h hm z far =
       refusal-later 1 _ (ap not (sized-whole q f h hm))
       ∙ refusal-later 2 _ (ap not (eq-eqb (field_at f 204 4) 0 z))
-      ∙ refusal-here 3 _ (ap (λ (y : Sync). not (eqb (sync_number y) 0)) (pattern-test.neither (sync_bits f) far))
+      ∙ refusal-here 3 _ (ap (λ (y : Option Fit). not (eqb (sync_number y) 0)) (pattern-test.neither (sync_bits f) far))
 
   no-pattern-only : (f : List ℕ) → refusal_by ed q f ≡ 3 → FarFromBoth (sync_bits f)
   unfolding refusal_by

@@ -26,8 +26,7 @@ use Rattle.dsc.specs.declared.Answer.{Answer}
 use Rattle.dsc.proofs.Word.{length-word, parity-only}
 use Rattle.dsc.proofs.Answers.{length-word_bytes, protected-word_bytes}
 use Rattle.dsc.proofs.MarkedAnswers.{whole-frame, AnsweredBy, found, far, answered-by}
-use Rattle.sync_pattern.specs.Pattern.{sync_number, fitting_pattern, fitting_differing}
-use Rattle.sync_pattern.specs.declared.Sync.TheVariants.{Fits}
+use Rattle.sync_pattern.specs.Pattern.{fit_with, sync_number, fitting_pattern, fitting_differing}
 use Rattle.sync_pattern.proofs.Patterns.{fitting}
 use Rattle.frame.specs.Identification.{class_of, start_end_of, update_of, is_undefined}
 use Rattle.frame.specs.Body.{body_of, layout, own_update}
@@ -71,7 +70,7 @@ module _ (ed : Edition) (q : Marking) where
     pub differing : ℕ
     pub complete : whole q f ≡ true
     pub filler : field_at f 204 4 ≡ 0
-    pub sync : sync_in f ≡ Fits pattern differing
+    pub sync : sync_in f ≡ fit_with pattern differing
     pub code-word : CodeWord word
     -- the places that count in which the word differs from the received bits, which are not too many
     pub counted : places ≡ hits_by q (add (protected f) word)

@@ -1,6 +1,6 @@
 -- Judging and reading a frame (document 01, "When the box says no"; document 02, a), e), j) and d), by the edition named. A frame may come with doubtful marks:
 -- then the repair with marks stands in the place of demand 3's, and the rest is the same. Assumes nothing.
-use Rattle.std.specs.Prelude.{Bool, cond, not, List, [], ◌∷◌, ◌++◌, ℕ, eqb, length, take, drop, replicate}
+use Rattle.std.specs.Prelude.{Bool, cond, not, List, [], ◌∷◌, ◌++◌, ℕ, eqb, length, take, drop, replicate, Option}
 use Rattle.bits.specs.Bits.{bits, bytes, bits_of}
 use Rattle.gf2.specs.Polynomial.{zeros}
 use Rattle.bits.specs.Field.{field_at}
@@ -10,7 +10,7 @@ use Rattle.crc.specs.Crc.{crc10_of}
 use Rattle.dsc.specs.Repair.{protected, number_of, places_of}
 use Rattle.dsc.specs.Marks.{Marking, unmarked, whole, repair_by}
 use Rattle.sync_pattern.specs.Pattern.{pattern_bits, sync_of, sync_number, fitting_pattern, fitting_differing}
-use Rattle.sync_pattern.specs.declared.Sync.{Sync}
+use Rattle.sync_pattern.specs.declared.Fit.{Fit}
 use Rattle.frame.specs.Identification.{class_of, flags_wrong, is_undefined}
 use Rattle.frame.specs.Body.{body_of, layout}
 use Rattle.frame.specs.Fields.{fields, with_origin, over_limit, record_of}
@@ -56,7 +56,7 @@ abbrev pub sync_bits : List ℕ → List Bool
 sync_bits f = take 16 (drop 1 (bits f))
 
 -- the pattern that they fit, and in how many of them they differ from it, or neither
-abbrev pub sync_in : List ℕ → Sync
+abbrev pub sync_in : List ℕ → Option Fit
 sync_in f = sync_of (sync_bits f)
 
 -- ---- the tests, in order

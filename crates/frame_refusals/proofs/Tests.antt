@@ -16,9 +16,9 @@ use Rattle.bits.proofs.Bits.{bits-drop}
 use Rattle.bits.proofs.Refusal.{Tested, end, met, unmet, tested}
 use Rattle.crc.specs.Crc.{crc10_of}
 use Rattle.dsc.specs.Marks.{unmarked}
-use Rattle.sync_pattern.specs.Pattern.{sync_of, sync_number, fitting_pattern, fitting_differing}
-use Rattle.sync_pattern.specs.declared.Sync.{Sync}
-use Rattle.sync_pattern.specs.declared.Sync.TheVariants.{Fits, Neither}
+use Rattle.std.specs.Prelude.{Option, None}
+use Rattle.sync_pattern.specs.Pattern.{fit_with, sync_of, sync_number, fitting_pattern, fitting_differing}
+use Rattle.sync_pattern.specs.declared.Fit.{Fit}
 use Rattle.frame.specs.Identification.{class_of, flags_wrong, is_undefined}
 use Rattle.frame.specs.Body.{body_of, layout}
 use Rattle.frame.specs.Fields.{over_limit}
@@ -61,7 +61,7 @@ module _ (f : List ℕ) where
         (unmet (ap not (eq-eqb (length f) 26 h))
         (met (ap not (ne_eqb (field_at f 204 4) 0 (λ z. n (field-filler ∙ z)))))))
 
-    module _ (z : filler ≡ 0) (n : ℕ) (en : n ≡ get_of f 1 16) (y : Sync) (ey : y ≡ sync_of (bits_of 16 n)) where
+    module _ (z : filler ≡ 0) (n : ℕ) (en : n ≡ get_of f 1 16) (y : Option Fit) (ey : y ≡ sync_of (bits_of 16 n)) where
       -- B1 to B16 are the bits of the number that was read there
       read-sync : y ≡ sync_in f
       read-sync = ey ∙ ap sync_of (ap (bits_of 16) (got f 1 16 n h refl en) ∙ part-bits 1 16 (bits f) (omega (arith, frame-bits f h)))
@@ -70,16 +70,16 @@ module _ (f : List ℕ) where
       past-filler t =
           tested (unmet (ap not (eq-eqb (length f) 26 h)) (unmet (ap not (eq-eqb (field_at f 204 4) 0 (sym field-filler ∙ z))) t))
 
-      by_answer : {z : Sync} → sync_in f ≡ z → not (eqb (sync_number (sync_in f)) 0) ≡ not (eqb (sync_number z) 0)
-      by_answer e = ap (λ (s : Sync). not (eqb (sync_number s) 0)) e
+      by_answer : {z : Option Fit} → sync_in f ≡ z → not (eqb (sync_number (sync_in f)) 0) ≡ not (eqb (sync_number z) 0)
+      by_answer e = ap (λ (s : Option Fit). not (eqb (sync_number s) 0)) e
 
-      pub preamble-neither : y ≡ Neither → Refused 3 ≡ preamble_of f
+      pub preamble-neither : y ≡ None → Refused 3 ≡ preamble_of f
       preamble-neither e = refused-with 3 (omega arith) (past-filler (met (by_answer (sym read-sync ∙ e))))
 
-      pub preamble-fits : (x p d : ℕ) → x ≡ get_of f 0 1 → y ≡ Fits p d → Passed x p d ≡ preamble_of f
+      pub preamble-fits : (x p d : ℕ) → x ≡ get_of f 0 1 → y ≡ fit_with p d → Passed x p d ≡ preamble_of f
       unfolding preamble_of
       preamble-fits x p d ex e =
-          let s : sync_in f ≡ Fits p d = sym read-sync ∙ e in
+          let s : sync_in f ≡ fit_with p d = sym read-sync ∙ e in
           rw (sym (past-filler (unmet (by_answer s) end)), s, got f 0 1 x h refl ex)
 
 -- ---- what they said

@@ -12,7 +12,6 @@ ghost use Rattle.frame_refusals.specs.Word.{word_details, Tells};
 
 use frame::{Body, Edition};
 use frame_details::Details;
-use sync_pattern::Sync;
 
 // What the tests before the repair say, and what they find before the word, in B0 to B16.
 #[derive(Clone, Copy)]
@@ -35,10 +34,10 @@ pub fn preamble_of(frame: &[u8]) -> Preamble
         return Preamble::Refused(2);
     }
     let reference = bit_fields::get(frame, 0, 1);
-    match sync_pattern::sync_of(bit_fields::get(frame, 1, 16)) {
-        Sync::Fits(pattern, differing) => Preamble::Passed(reference, pattern, differing),
-        Sync::Neither => Preamble::Refused(3),
-    }
+    let Some(fit) = sync_pattern::sync_of(bit_fields::get(frame, 1, 16)) else {
+        return Preamble::Refused(3);
+    };
+    Preamble::Passed(reference, fit.pattern, fit.differing)
 }
 
 // The body of a repaired frame.

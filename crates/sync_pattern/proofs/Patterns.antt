@@ -11,6 +11,7 @@ use lib.Count.{ones}
 use lib.Dec.{leb}
 use lib.ListN.{length}
 use borrow.Author.Tests.{le-leb, lt-leb, leb-true, leb-false}
+use Rattle.std.specs.Prelude.{Option, Some, None}
 use Rattle.bits.specs.Bits.{digit, odd, bits_of}
 use Rattle.bits.proofs.Bits.{length-bits_of}
 use Rattle.gf2.specs.Polynomial.{◌⊕◌, add}
@@ -18,9 +19,8 @@ use Rattle.lanes.proofs.Number.{add-bits_of}
 use Rattle.dsc.specs.Code.{weight, dist}
 use Rattle.dsc.proofs.Weight.{weight-bits_of}
 use Rattle.dsc.proofs.Distance.{dist-hit}
-use Rattle.sync_pattern.specs.Pattern.{pattern_word, pattern_bits, differing_from, sync_limit, sync_of, sync_number, fitting_pattern, fitting_differing}
-use Rattle.sync_pattern.specs.declared.Sync.{Sync}
-use Rattle.sync_pattern.specs.declared.Sync.TheVariants.{Fits, Neither}
+use Rattle.sync_pattern.specs.Pattern.{pattern_word, pattern_bits, differing_from, sync_limit, fit_with, sync_of, sync_number, fitting_pattern, fitting_differing}
+use Rattle.sync_pattern.specs.declared.Fit.{Fit}
 
 -- ---- the distances from a word and from its complement make its length
 
@@ -69,30 +69,30 @@ differing-ones p n = ap weight (add-bits_of 16 n (pattern_word p)) ∙ weight-bi
 
 module _ (s : List Bool) where
   -- whether 0 fits, and whether 1 does
-  chosen : (a b : Bool) → Sync
-  chosen a b = cond a (Fits 0 (differing_from 0 s)) (cond b (Fits 1 (differing_from 1 s)) Neither)
+  chosen : (a b : Bool) → Option Fit
+  chosen a b = cond a (fit_with 0 (differing_from 0 s)) (cond b (fit_with 1 (differing_from 1 s)) None)
 
   by_tests : (a b : Bool) → leb (differing_from 0 s) sync_limit ≡ a → leb (differing_from 1 s) sync_limit ≡ b → chosen a b ≡ sync_of s
   unfolding chosen sync_of
   by_tests a b ea eb = sym (ap₂ chosen ea eb)
 
-  pub fits-0 : differing_from 0 s ≤ sync_limit → Fits 0 (differing_from 0 s) ≡ sync_of s
+  pub fits-0 : differing_from 0 s ≤ sync_limit → fit_with 0 (differing_from 0 s) ≡ sync_of s
   unfolding chosen
   fits-0 h = by_tests true (leb (differing_from 1 s) sync_limit) (le-leb (differing_from 0 s) sync_limit h) refl
 
-  pub fits-1 : sync_limit < differing_from 0 s → differing_from 1 s ≤ sync_limit → Fits 1 (differing_from 1 s) ≡ sync_of s
+  pub fits-1 : sync_limit < differing_from 0 s → differing_from 1 s ≤ sync_limit → fit_with 1 (differing_from 1 s) ≡ sync_of s
   unfolding chosen
   fits-1 g h = by_tests false true (lt-leb (differing_from 0 s) sync_limit g) (le-leb (differing_from 1 s) sync_limit h)
 
-  pub fits-neither : sync_limit < differing_from 0 s → sync_limit < differing_from 1 s → Neither ≡ sync_of s
+  pub fits-neither : sync_limit < differing_from 0 s → sync_limit < differing_from 1 s → None ≡ sync_of s
   unfolding chosen
   fits-neither g h = by_tests false false (lt-leb (differing_from 0 s) sync_limit g) (lt-leb (differing_from 1 s) sync_limit h)
 
   -- the three cases, and that there is no other
-  pub data Answered : Sync → Type 0 where
-    is-0 : differing_from 0 s ≤ sync_limit → Answered (Fits 0 (differing_from 0 s))
-    is-1 : differing_from 1 s ≤ sync_limit → Answered (Fits 1 (differing_from 1 s))
-    is-neither : sync_limit < differing_from 0 s → sync_limit < differing_from 1 s → Answered Neither
+  pub data Answered : Option Fit → Type 0 where
+    is-0 : differing_from 0 s ≤ sync_limit → Answered (fit_with 0 (differing_from 0 s))
+    is-1 : differing_from 1 s ≤ sync_limit → Answered (fit_with 1 (differing_from 1 s))
+    is-neither : sync_limit < differing_from 0 s → sync_limit < differing_from 1 s → Answered None
 
   pub answered : Answered (sync_of s)
   unfolding chosen
@@ -105,10 +105,16 @@ module _ (s : List Bool) where
           subst Answered (by_tests false false ea eb) (is-neither (leb-false (differing_from 0 s) sync_limit ea) (leb-false (differing_from 1 s) sync_limit eb))
 
 -- an answer by its number
-pub fitting : (y : Sync) → sync_number y ≡ 0 → y ≡ Fits (fitting_pattern y) (fitting_differing y)
-fitting (Fits p d) e = refl
-fitting Neither e = absurd (omega arith)
+pub fitting : (y : Option Fit) → sync_number y ≡ 0 → y ≡ fit_with (fitting_pattern y) (fitting_differing y)
+fitting (Some x) e = refl
+fitting None e = absurd (omega arith)
 
-pub fitting-none : (y : Sync) → sync_number y ≢ 0 → y ≡ Neither
-fitting-none (Fits p d) n = absurd (n refl)
-fitting-none Neither n = refl
+pub fitting-none : (y : Option Fit) → sync_number y ≢ 0 → y ≡ None
+fitting-none (Some x) n = absurd (n refl)
+fitting-none None n = refl
+
+-- ---- what the functions' goals ask
+
+pub ruleset counted = (differing-ones)
+
+pub ruleset ways_out = (fits-0, fits-1, fits-neither)

@@ -1,10 +1,9 @@
 -- The synchronising bits B1 to B16 (document 01, "The frame, bit by bit"; document 02, e). The notice gives no value: its note 3 only says that B4 to B16 are
 -- the low 13 bits of the synchronising signal. The value is document 01's, which has it from ARIB STD-B31. Assumes nothing.
-use Rattle.std.specs.Prelude.{Bool, cond, List, ℕ, ◌-◌, eqb, leb}
+use Rattle.std.specs.Prelude.{Bool, cond, List, ℕ, ◌-◌, eqb, leb, Option, Some, None}
 use Rattle.bits.specs.Bits.{bits_of}
 use Rattle.dsc.specs.Code.{dist}
-use Rattle.sync_pattern.specs.declared.Sync.{Sync}
-use Rattle.sync_pattern.specs.declared.Sync.TheVariants.{Fits, Neither}
+use Rattle.sync_pattern.specs.declared.Fit.{Fit}
 
 abbrev pattern0 : ℕ
 pattern0 = 0b0011010111101110
@@ -25,22 +24,26 @@ differing_from p s = dist s (pattern_bits p)
 abbrev pub sync_limit : ℕ
 sync_limit = 3
 
+-- the answer that bits fit pattern p and differ from it in d
+abbrev pub fit_with : (p d : ℕ) → Option Fit
+fit_with p d = Some (record { pattern = p; differing = d })
+
 -- the pattern test: which pattern 16 bits fit, and in how many they differ from it, or neither
-unfoldable pub sync_of : List Bool → Sync
+unfoldable pub sync_of : List Bool → Option Fit
 sync_of s =
-    cond (leb (differing_from 0 s) sync_limit) (Fits 0 (differing_from 0 s))
-    (cond (leb (differing_from 1 s) sync_limit) (Fits 1 (differing_from 1 s)) Neither)
+    cond (leb (differing_from 0 s) sync_limit) (fit_with 0 (differing_from 0 s))
+    (cond (leb (differing_from 1 s) sync_limit) (fit_with 1 (differing_from 1 s)) None)
 
 -- ---- document 01's number and the values of an answer: 0 with the pattern and how many bits differ from it, or refusal 3
 
-abbrev pub sync_number : Sync → ℕ
-sync_number (Fits p d) = 0
-sync_number Neither = 3
+abbrev pub sync_number : Option Fit → ℕ
+sync_number (Some x) = 0
+sync_number None = 3
 
-abbrev pub fitting_pattern : Sync → ℕ
-fitting_pattern (Fits p d) = p
-fitting_pattern Neither = 0
+abbrev pub fitting_pattern : Option Fit → ℕ
+fitting_pattern (Some x) = x.pattern
+fitting_pattern None = 0
 
-abbrev pub fitting_differing : Sync → ℕ
-fitting_differing (Fits p d) = d
-fitting_differing Neither = 0
+abbrev pub fitting_differing : Option Fit → ℕ
+fitting_differing (Some x) = x.differing
+fitting_differing None = 0

@@ -1,9 +1,8 @@
 -- What the pattern test promises, in the words of document 02, e). The record has one value, proved in proofs/Promises.antt. Assumes nothing.
-use Rattle.std.specs.Prelude.{◌≡◌, Bool, not, List, map, ℕ, ◌+◌, ◌-◌, ◌≤◌, ◌<◌, length}
+use Rattle.std.specs.Prelude.{◌≡◌, Bool, not, List, map, ℕ, ◌+◌, ◌-◌, ◌≤◌, ◌<◌, length, None}
 use Rattle.gf2.specs.Polynomial.{add}
 use Rattle.dsc.specs.Code.{weight}
-use Rattle.sync_pattern.specs.Pattern.{pattern_bits, differing_from, sync_of}
-use Rattle.sync_pattern.specs.declared.Sync.TheVariants.{Fits, Neither}
+use Rattle.sync_pattern.specs.Pattern.{pattern_bits, differing_from, fit_with, sync_of}
 
 -- four bits or more differ from each of the two patterns
 pub record FarFromBoth (s : List Bool) : Type 0 where
@@ -24,13 +23,13 @@ pub record PatternTest : Type 0 where
   -- so only one can fit
   pub only_one : (s : List Bool) (p q d e : ℕ) → length s ≡ 16 → Fitting s p d → Fitting s q e → p ≡ q
   -- the answer is a pattern exactly where at most three bits differ from it, with their number
-  pub fits : (s : List Bool) (p d : ℕ) → length s ≡ 16 → Fitting s p d → sync_of s ≡ Fits p d
-  pub fits-only : (s : List Bool) (p d : ℕ) → sync_of s ≡ Fits p d → Fitting s p d
+  pub fits : (s : List Bool) (p d : ℕ) → length s ≡ 16 → Fitting s p d → sync_of s ≡ fit_with p d
+  pub fits-only : (s : List Bool) (p d : ℕ) → sync_of s ≡ fit_with p d → Fitting s p d
   -- and neither exactly where four or more differ from each of the two
-  pub neither : (s : List Bool) → FarFromBoth s → sync_of s ≡ Neither
-  pub neither-only : (s : List Bool) → sync_of s ≡ Neither → FarFromBoth s
+  pub neither : (s : List Bool) → FarFromBoth s → sync_of s ≡ None
+  pub neither-only : (s : List Bool) → sync_of s ≡ None → FarFromBoth s
   -- whichever pattern was sent, and whichever three bits or fewer of it were hit: that pattern, and the number of bits hit
-  pub sent : (p : ℕ) (e : List Bool) → p < 2 → length e ≡ 16 → weight e ≤ 3 → sync_of (add e (pattern_bits p)) ≡ Fits p (weight e)
+  pub sent : (p : ℕ) (e : List Bool) → p < 2 → length e ≡ 16 → weight e ≤ 3 → sync_of (add e (pattern_bits p)) ≡ fit_with p (weight e)
   -- hit in four to twelve bits it is neither, and from thirteen on it is taken for the other one
-  pub lost : (p : ℕ) (e : List Bool) → p < 2 → length e ≡ 16 → 4 ≤ weight e → weight e ≤ 12 → sync_of (add e (pattern_bits p)) ≡ Neither
-  pub mistaken : (p : ℕ) (e : List Bool) → p < 2 → length e ≡ 16 → 13 ≤ weight e → sync_of (add e (pattern_bits p)) ≡ Fits (1 - p) (16 - weight e)
+  pub lost : (p : ℕ) (e : List Bool) → p < 2 → length e ≡ 16 → 4 ≤ weight e → weight e ≤ 12 → sync_of (add e (pattern_bits p)) ≡ None
+  pub mistaken : (p : ℕ) (e : List Bool) → p < 2 → length e ≡ 16 → 13 ≤ weight e → sync_of (add e (pattern_bits p)) ≡ fit_with (1 - p) (16 - weight e)

@@ -8,13 +8,13 @@ returns-then-frame-ne26 c = preamble-short c.args.frame.now c.if-frame-ne26.true
 pub returns-then-filler-ne0 : goal.returns-then-filler-ne0
 returns-then-filler-ne0 c = preamble-filler c.args.frame.now c.if-frame-ne26.false c.get-filler.result c.get-filler.ensures c.if-filler-ne0.true
 
-pub returns-in-Fits : goal.returns-in-Fits
-returns-in-Fits c =
+pub returns : goal.returns
+returns c =
     preamble-fits c.args.frame.now c.if-frame-ne26.false c.get-filler.result c.get-filler.ensures c.if-filler-ne0.false
     c.get.result c.get.ensures c.sync_of.result c.sync_of.ensures
-    c.get-reference.result c.in-Fits.pattern c.in-Fits.differing c.get-reference.ensures c.in-Fits.is
+    c.get-reference.result c.in-Some.fit.pattern c.in-Some.fit.differing c.get-reference.ensures c.in-Some.is
 
-pub returns-in-Neither : goal.returns-in-Neither
-returns-in-Neither c =
+pub returns-in_default : goal.returns-in_default
+returns-in_default c =
     preamble-neither c.args.frame.now c.if-frame-ne26.false c.get-filler.result c.get-filler.ensures c.if-filler-ne0.false
-    c.get.result c.get.ensures c.sync_of.result c.sync_of.ensures c.in-Neither.is
+    c.get.result c.get.ensures c.sync_of.result c.sync_of.ensures c.in_default.is
