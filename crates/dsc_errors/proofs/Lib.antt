@@ -1,3 +1,3 @@
 pub mod Held
 pub mod Flips
-pub mod ErrorWord
+pub mod ErrorPlaces

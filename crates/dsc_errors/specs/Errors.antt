@@ -1,15 +1,12 @@
 -- The majorities of a word's places, 64 at a time, in machine words. Only the crates of the repair speak of them; what the box promises (Repair, Promises of
 -- dsc) does not.
 -- Assumes nothing.
-use Rattle.std.specs.Prelude.{◌≡◌, Bool, List, [], ◌∷◌, ℕ, ◌+◌, ◌≤◌, ◌<◌, leb, length}
+use Rattle.std.specs.Prelude.{◌≡◌, Bool, List, [], ◌∷◌, ℕ, ◌+◌, ◌<◌, leb, length}
 use Rattle.lanes.specs.Lane.{lane, bit_at}
-use Rattle.dsc.specs.Code.{count, weight, dist}
+use Rattle.dsc.specs.Code.{count, dist}
 use Rattle.dsc.specs.CheckTable.{differences, coefficient, failures}
 use Rattle.dsc.specs.Majority.{flipped}
-use Rattle.dsc_words.specs.Words.{held, Fits}
 use Rattle.dsc_sums.specs.Sums.{AllSums}
-use Rattle.dsc_errors.specs.declared.Pattern.{Pattern}
-use Rattle.dsc_errors.specs.declared.Pattern.TheVariants as pattern
 
 -- z is bits 47 to 110 of the words x and y
 pub record Wrapped (x y z : ℕ) : Type 0 where
@@ -30,8 +27,3 @@ pub record ErrorsOf (a b c d e : ℕ) (errors : List Bool) : Type 0 where
 -- more than eight places are flipped in every word that has these sums
 pub record ManyErrors (a b c d e : ℕ) : Type 0 where
   pub each : (w : List Bool) → length w ≡ 187 → AllSums w a b c d e → 8 < dist w (flipped w w)
-
--- the errors of the words that have these sums
-abbrev pub ErrorsFrom : ℕ → ℕ → ℕ → ℕ → ℕ → Pattern → Type 0
-ErrorsFrom a b c d e (pattern.Few w n) = Fits w × ErrorsOf a b c d e (held w) × (n ≡ weight (held w)) × (n ≤ 8)
-ErrorsFrom a b c d e pattern.Many = ManyErrors a b c d e

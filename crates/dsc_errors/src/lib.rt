@@ -1,11 +1,25 @@
 // The places on which the majority of the check rows fail, 64 places at a time.
 #![tactic(auto)]
 
-ghost use Rattle.std.specs.Prelude.{[], ◌∷◌};
-ghost use Rattle.dsc_errors.specs.Errors.{Wrapped, MovedMajority, ErrorsFrom};
+ghost use Rattle.std.specs.Prelude.{◌≡◌, ◌≤◌, [], ◌∷◌, MatchOption};
+ghost use Rattle.dsc.specs.Code.{weight};
+ghost use Rattle.dsc_words.specs.Words.{held};
+ghost use Rattle.dsc_errors.specs.Errors.{Wrapped, MovedMajority, ErrorsOf, ManyErrors};
 
 use dsc_sums::{MiddleSums, OuterSums};
 use dsc_words::Word;
+
+// In how many places the code is repaired.
+const MOST: u32 = 8;
+
+// The places in error as a word, and how many they are: at most eight.
+#[derive(Clone, Copy)]
+pub struct ErrorWord {
+    pub word: Word,
+    pub places: u8,
+    pub ghost counted: { places ≡ weight (held word) },
+    pub ghost few: { places ≤ 8 },
+}
 
 // 64 places at once: lane i says that nine or more of the bits at the differences, moved on by i, are set. The shifts are the rows through place 0, which
 // the check table gives (`shifts` in `dsc_sums/specs/Promises`).
@@ -40,17 +54,12 @@ fn wrap(x: u64, y: u64) -> u64
     (x >> 47) | (y << 17)
 }
 
-// The error word and how many places it has, or that they are more than eight.
-#[derive(Clone, Copy)]
-pub enum Pattern {
-    Few(Word, u8),
-    Many,
-}
-
-// The error word: the places of which nine or more of the 17 rows fail. The weight is tested after each majority: few errors are the rule, and in different
-// branches the compiler does not mix the adders of two majorities.
-pub fn errors(middle: MiddleSums, outer: OuterSums) -> Pattern
-    ensures { ErrorsFrom outer.rows0 outer.rows64 middle.rows128 middle.rows192 outer.rows256 result }
+// The error word: the places of which nine or more of the 17 rows fail, or none where they are more than eight. The weight is tested after each majority: few
+// errors are the rule, and in different branches the compiler does not mix the adders of two majorities.
+pub fn errors(middle: MiddleSums, outer: OuterSums) -> Option<ErrorWord>
+    ensures { MatchOption result
+        (ManyErrors outer.rows0 outer.rows64 middle.rows128 middle.rows192 outer.rows256)
+        (λ errors. ErrorsOf outer.rows0 outer.rows64 middle.rows128 middle.rows192 outer.rows256 (held errors.word)) }
 {
     let fourth = wrap(outer.rows256 << 47, outer.rows0);
     let fifth = wrap(outer.rows0, outer.rows64);
@@ -62,27 +71,27 @@ pub fn errors(middle: MiddleSums, outer: OuterSums) -> Pattern
         middle.rows192,
         fourth,
     );
-    let first = lanes::ones(low);
-    if 8 < first {
-        return Pattern::Many;
+    let first = low.count_ones();
+    if MOST < first {
+        return None;
     }
     let next = majority(outer.rows64, middle.rows128, middle.rows192, fourth, fifth);
-    let second = first + lanes::ones(next);
-    if 8 < second {
-        return Pattern::Many;
+    let second = first + next.count_ones();
+    if MOST < second {
+        return None;
     }
     let last = majority(middle.rows128, middle.rows192, fourth, fifth, sixth);
     let high = (last << 5) >> 5;
-    let places = second + lanes::ones(high);
-    if 8 < places {
-        return Pattern::Many;
+    let places = second + high.count_ones();
+    if MOST < places {
+        return None;
     }
-    Pattern::Few(
-        Word {
+    Some(ErrorWord {
+        word: Word {
             low,
             middle: next,
             high,
         },
-        places as u8,
-    )
+        places: places as u8,
+    })
 }

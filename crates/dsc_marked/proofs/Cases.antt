@@ -3,76 +3,90 @@ use mathlib.Core.Path.{◌≡◌, refl, sym, ap, ap₂, ◌∙◌, subst}
 use mathlib.Core.Bool.{Bool, true, false}
 use mathlib.Core.List.{List}
 use mathlib.Core.Logic.{◌≢◌, inl, inr}
-use Prim.Native.Nat.{ℕ}
+use Prim.Native.Nat.{ℕ, ◌<◌, ◌≤◌}
+use lib.Bits.{bit_or}
 use lib.ListN.{length, replicate}
+use Rattle.std.specs.Prelude.{Option, Some, None, MatchOption}
 use Rattle.dsc.specs.Code.{weight}
-use Rattle.dsc.specs.Repair.{protected, refused_with, left_in}
+use Rattle.dsc.specs.Repair.{protected, repaired_to, refused_with, left_in}
 use Rattle.dsc.specs.Marks.{filled, decode_marked, marked_answer, marked_repair_of, marked}
 use Rattle.dsc.specs.declared.Answer.{Answer}
 use Rattle.dsc.specs.declared.Outcome.{Outcome}
 use Rattle.dsc.proofs.MarkedAnswers.{sized-whole, marked-decoded, each-answer}
 use Rattle.dsc.proofs.DoubtfulMarks.{doubtful-marks}
-use Rattle.dsc_words.specs.Words.{held, Fits}
-use Rattle.dsc_words.specs.declared.Word.{Word}
+use Rattle.dsc_words.specs.Words.{held}
 use Rattle.dsc_words.proofs.Words.{length-held}
+use Rattle.dsc_words.specs.declared.Word.{Word}
+use Rattle.dsc_sums.specs.Sums.{Sums}
+use Rattle.dsc_codec.proofs.Verdict.{even-tested}
 use Rattle.dsc_codec.specs.Engine.{Finds}
-use Rattle.dsc_codec.specs.declared.Found.{Found}
-use Rattle.dsc_codec.specs.declared.Found.TheVariants as found
-use Rattle.dsc_codec.proofs.Verdict.{near, far-off}
-use Rattle.dsc_marked.specs.Fillings.{Tested, Answering, NoneNear, Tried, MarkedFinds}
-use Rattle.dsc_marked.proofs.BothFillings.{far_none, found_word, passed, no-marks, neither, none-near}
+use Rattle.dsc_codec.specs.declared.Nearest.{Nearest}
+use Rattle.dsc_marked.specs.Fillings.{Tested, NoneNear, Tried, MarkedFinds}
+use Rattle.dsc_marked.proofs.BothFillings.{too_many, clean, far_none, found_word, passed, no-marks, neither, none-near}
 
 module _ (ms r : List Bool) (lm : length ms ≡ 187) (lr : length r ≡ 187) where
   -- ---- a filling u: x is what the plain repair finds, y what comes of the test
 
-  module _ (u : List Bool) (lu : length u ≡ 187) (x : Found) (f : Finds u x) where
-    pub filling-near : {w : Word} {n : ℕ} → x ≡ found.Near w n → (y : Found) → Tested ms r w y → Tried ms r u y
-    filling-near {w} {n} e (found.Near v k) t =
-        let q = near u x f e in
-        subst (λ v. Answering ms r v k) (sym t.0) (q.0, passed ms r lm lr (held w) (found_word u lu (held w) (length-held w) q.1) t.1)
-    filling-near {w} {n} e found.Far t = none-near ms r u lu (held w) (length-held w) (near u x f e).1 t
+  module _ (u : List Bool) (lu : length u ≡ 187) where
+    pub filling-near : (x : Nearest) → Finds u (Some x) → (y : Option Nearest) → Tested ms r x.word y → Tried ms r u y
+    filling-near x q (Some y) t =
+        ap (λ v. repaired_to (held v) y.places) t.0 ∙ passed ms r lm lr (held x.word) (found_word u lu (held x.word) (length-held x.word) q) t.1
+    filling-near x q None t = none-near ms r u lu (held x.word) (length-held x.word) q t
 
-    pub filling-far : x ≡ found.Far → NoneNear ms r u
-    filling-far e = record { each = λ c k few d. far_none u lu (far-off u x f e) c k d }
+    pub filling-far : Finds u None → NoneNear ms r u
+    filling-far q = record { each = λ c k few d. far_none u lu q c k d }
 
-  -- ---- the two fillings u and v: x and y are what is found from them
+  -- ---- the two fillings u and v: x is what is found from the first, and y the answer, which is what is found from the second where x is none
 
-  pub first_found : (u : List Bool) (x : Found) → Tried ms r u x → {w : Word} {n : ℕ} → x ≡ found.Near w n → Answering ms r w n
-  first_found u x t e = subst (Tried ms r u) e t
+  second-found : {u v : List Bool} → u ≡ filled false ms r → v ≡ filled true ms r → NoneNear ms r u → (y : Option Nearest) → Tried ms r v y → MarkedFinds ms r y
+  second-found eu ev none (Some y) t = t
+  second-found {u} {v} eu ev none None t = neither ms r lm lr u v eu ev none t
 
-  pub second-found : (u v : List Bool) → u ≡ filled false ms r → v ≡ filled true ms r
-      → (x : Found) → Tried ms r u x → x ≡ found.Far → (y : Found) → Tried ms r v y → MarkedFinds ms r y
-  second-found u v eu ev x t e (found.Near w n) s = s
-  second-found u v eu ev x t e found.Far s = neither ms r lm lr u v eu ev (subst (Tried ms r u) e t) s
+  pub either-found : {u v : List Bool} {P : Type 0} → u ≡ filled false ms r → v ≡ filled true ms r → (x y : Option Nearest) → Tried ms r u x → (P → Tried ms r v y)
+      → MatchOption x P (λ z. y ≡ Some z) → MarkedFinds ms r y
+  either-found eu ev (Some x) y t second e = subst (MarkedFinds ms r) (sym e) t
+  either-found eu ev None y t second p = second-found eu ev t y (second p)
 
 -- ---- found without the fillings
 
-module _ (ms r : List Bool) (lm : length ms ≡ 187) (lr : length r ≡ 187) where
-  pub found-unmarked : weight ms ≡ 0 → (x : Found) → Finds r x → MarkedFinds ms r x
-  found-unmarked e (found.Near w n) f = (f.0, f.1 ∙ no-marks ms r lm lr e)
-  found-unmarked e found.Far f = f ∙ no-marks ms r lm lr e
+module _ (marks received : Word) where
+  abbrev ms : List Bool
+  ms = held marks
 
--- ---- by what was found
+  abbrev r : List Bool
+  r = held received
 
-pub marked-near : (ms r : List Bool) (x : Found) → MarkedFinds ms r x → {w : Word} {n : ℕ} → x ≡ found.Near w n → Answering ms r w n
-marked-near ms r x t e = subst (MarkedFinds ms r) e t
+  pub no_marks : weight ms ≡ 0 → (x : Option Nearest) → Finds r x → MarkedFinds ms r x
+  no_marks e (Some x) f = f ∙ no-marks ms r (length-held marks) (length-held received) e
+  no_marks e None f = f ∙ no-marks ms r (length-held marks) (length-held received) e
 
-pub marked-far : (ms r : List Bool) (x : Found) → MarkedFinds ms r x → x ≡ found.Far → refused_with 4 ≡ marked_answer ms r (decode_marked ms r)
-marked-far ms r x t e = subst (MarkedFinds ms r) e t
+  pub more_than_17_marks : 17 < weight ms → MarkedFinds ms r None
+  more_than_17_marks h = too_many ms r (length-held marks) (length-held received) h
+
+  pub code_word : {x y : ℕ} → Sums r 128 64 x → Sums r 192 64 y → bit_or x y ≡ 0 → weight ms ≤ 17 → MarkedFinds ms r (Some (record { word = received; places = 0 }))
+  code_word sx sy e h = clean ms r (length-held marks) (length-held received) (even-tested r (length-held received) sx sy e) h
 
 -- ---- the answer to the frame f with the marks m
 
 module _ (f m : List ℕ) where
-  pub short-frame : length f ≢ 26 → refused_with 1 ≡ marked_repair_of f m
-  short-frame h = sym (doubtful-marks.short f m (inl h))
+  pub short_frame : length f ≢ 26 → marked_repair_of f m ≡ refused_with 1
+  short_frame h = doubtful-marks.short f m (inl h)
 
-  pub short-marks : length m ≢ 26 → refused_with 1 ≡ marked_repair_of f m
-  short-marks h = sym (doubtful-marks.short f m (inr h))
+  pub short_marks : length m ≢ 26 → marked_repair_of f m ≡ refused_with 1
+  short_marks h = doubtful-marks.short f m (inr h)
 
-  pub answered : {r ms : List Bool} {a : Answer} → length f ≡ 26 → length m ≡ 26 → r ≡ protected f → ms ≡ protected m
-      → a ≡ marked_answer ms r (decode_marked ms r) → a ≡ marked_repair_of f m
+  answered : {r ms : List Bool} {a : Answer} → length f ≡ 26 → length m ≡ 26 → r ≡ protected f → ms ≡ protected m
+      → a ≡ marked_answer ms r (decode_marked ms r) → marked_repair_of f m ≡ a
   answered lf lm er em q =
-      q ∙ ap₂ (λ ms r. marked_answer ms r (decode_marked ms r)) em er ∙ sym (marked-decoded f m (sized-whole (marked m) f lf lm) (decode_marked (protected m) (protected f)) refl)
+      marked-decoded f m (sized-whole (marked m) f lf lm) (decode_marked (protected m) (protected f)) refl
+      ∙ sym (q ∙ ap₂ (λ ms r. marked_answer ms r (decode_marked ms r)) em er)
+
+  module _ (received marks : Word) (lf : length f ≡ 26) (lm : length m ≡ 26) (er : held received ≡ protected f) (em : held marks ≡ protected m) where
+    pub word_found : (x : Nearest) → MarkedFinds (held marks) (held received) (Some x) → marked_repair_of f m ≡ repaired_to (held x.word) x.places
+    word_found x q = answered lf lm er em q
+
+    pub no_word_found : MarkedFinds (held marks) (held received) None → marked_repair_of f m ≡ refused_with 4
+    no_word_found q = answered lf lm er em q
 
   -- a refusal has no word: the answer is its outcome and what it leaves of 26 clear bytes b
   pub whole-answer : {o : Outcome} {b w : List ℕ} → o ≡ (marked_repair_of f m).outcome → w ≡ left_in (marked_repair_of f m) b → b ≡ replicate 26 0
@@ -80,3 +94,9 @@ module _ (f m : List ℕ) where
   whole-answer eo ew eb =
       ap₂ (λ o w. record { outcome = o; word = w }) eo (ew ∙ ap (left_in (marked_repair_of f m)) eb)
       ∙ each-answer (marked m) f (λ (a : Answer). ◌≡◌ {A = Answer} (record { outcome = a.outcome; word = left_in a (replicate 26 0) }) a) (λ c n. refl) refl refl
+
+-- ---- what the functions' goals ask
+
+pub ruleset unfilled = (no_marks, more_than_17_marks, code_word)
+
+pub ruleset answers = (short_frame, short_marks, word_found, no_word_found)

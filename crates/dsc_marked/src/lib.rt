@@ -7,75 +7,81 @@ ghost use Rattle.std.specs.Prelude.{◌≡◌, ◌≤◌, length};
 ghost use Rattle.dsc.specs.Code.{weight};
 ghost use Rattle.dsc.specs.Marks.{marked_repair_of};
 ghost use Rattle.dsc.specs.Repair.{left_in};
-ghost use Rattle.dsc_words.specs.Words.{held, Fits};
+ghost use Rattle.dsc_words.specs.Words.{held};
 ghost use Rattle.dsc_marked.specs.Fillings.{Tested, Tried, MarkedFinds};
 
 use dsc::{Answer, Outcome};
-use dsc_codec::Found;
+use dsc_codec::Nearest;
 use dsc_words::Word;
 
+// The doubtful places as a word, and how many they are.
+#[derive(Clone, Copy)]
+struct Marks {
+    word: Word,
+    count: u32,
+    ghost counted: { count ≡ weight (held word) },
+    ghost at_most_192: { count ≤ 192 },
+}
+
 // The code word with the number of unmarked places in which it differs, if these are few enough beside so many marks.
-fn accepted(word: Word, received: Word, marks: Word, marked: u32) -> Found
-    requires { Fits word × Fits received × Fits marks × (marked ≡ weight (held marks)) × (marked ≤ 192) }
-    ensures { Tested (held marks) (held received) word result }
+fn accepted(word: Word, received: Word, marks: Marks) -> Option<Nearest>
+    ensures { Tested (held marks.word) (held received) word result }
 {
-    let errors = dsc_words::sum(received, word);
-    let counted = dsc_words::clear_marked(errors, marks);
-    let places = dsc_words::weight(counted);
-    if 17 < 2 * places + marked {
-        return Found::Far;
+    let errors = received.sum(word);
+    let counted = errors.clear_marked(marks.word);
+    let places = counted.weight();
+    if 17 < 2 * places + marks.count {
+        return None;
     }
-    Found::Near(word, places as u8)
+    Some(Nearest {
+        word,
+        places: places as u8,
+    })
 }
 
 // The code word within eight places of the received bits as they are filled under the marks, if it is accepted.
-fn try_filling(filling: Word, received: Word, marks: Word, marked: u32) -> Found
-    requires { Fits filling × Fits received × Fits marks × (marked ≡ weight (held marks)) × (marked ≤ 192) }
-    ensures { Tried (held marks) (held received) (held filling) result }
+fn try_filling(filling: Word, received: Word, marks: Marks) -> Option<Nearest>
+    ensures { Tried (held marks.word) (held received) (held filling) result }
 {
-    let found = dsc_codec::find(filling);
-    match found {
-        Found::Near(word, _) => accepted(word, received, marks, marked),
-        Found::Far => Found::Far,
-    }
+    let nearest = dsc_codec::find(filling)?;
+    accepted(nearest.word, received, marks)
 }
 
 // The code word with 2t+s at most 17, by the two fillings.
-fn find_filled(received: Word, marks: Word, marked: u32) -> Found
-    requires { Fits received × Fits marks × (marked ≡ weight (held marks)) × (marked ≤ 192) }
-    ensures { MarkedFinds (held marks) (held received) result }
+fn find_filled(received: Word, marks: Marks) -> Option<Nearest>
+    ensures { MarkedFinds (held marks.word) (held received) result }
 {
-    let cleared = dsc_words::clear_marked(received, marks);
-    let filled = dsc_words::set_marked(received, marks);
-    let first = try_filling(cleared, received, marks, marked);
-    match first {
-        Found::Near(word, places) => Found::Near(word, places),
-        Found::Far => try_filling(filled, received, marks, marked),
-    }
+    let cleared = received.clear_marked(marks.word);
+    let filled = received.set_marked(marks.word);
+    try_filling(cleared, received, marks).or_else(|| try_filling(filled, received, marks))
 }
 
 // The same. Without a mark the plain repair is enough, and a received code word, whose check rows are all even, is its own repair: neither waits for the
 // fillings.
-fn find_marked(received: Word, marks: Word) -> Found
-    requires { Fits received × Fits marks }
+#[tactic(auto, using(crate::proofs::Cases::unfilled))]
+fn find_marked(received: Word, marks: Word) -> Option<Nearest>
     ensures { MarkedFinds (held marks) (held received) result }
 {
-    let marked = dsc_words::weight(marks);
-    if marked == 0 {
+    let count = marks.weight();
+    if count == 0 {
         return dsc_codec::find(received);
     }
-    if 17 < marked {
-        return Found::Far;
+    if 17 < count {
+        return None;
     }
     let middle = dsc_sums::middle_sums(received);
     if (middle.rows128 | middle.rows192) == 0 {
-        return Found::Near(received, 0);
+        return Some(Nearest {
+            word: received,
+            places: 0,
+        });
     }
-    find_filled(received, marks, marked)
+    find_filled(received, Marks { word: marks, count })
 }
 
 // The repair of a frame with its marks, into a buffer that is lent, which a refusal leaves as it was. Refuses 1, then 4. The caller has tested the buffer's
 // length.
+#[tactic(auto, using(crate::proofs::Cases::answers))]
 pub fn repair_marked_into(frame: &[u8], marks: &[u8], word: &mut [u8]) -> Outcome
     requires { length word.old ≡ 26 }
     ensures value { result ≡ (marked_repair_of frame.now marks.now).outcome }
@@ -87,16 +93,13 @@ pub fn repair_marked_into(frame: &[u8], marks: &[u8], word: &mut [u8]) -> Outcom
     if marks.len() != 26 {
         return Outcome::Refused(1);
     }
-    let received = dsc_words::received(frame);
-    let doubtful = dsc_words::received(marks);
-    let found = find_marked(received, doubtful);
-    match found {
-        Found::Near(repaired, places) => {
-            dsc_words::put_word(repaired, word);
-            Outcome::Repaired(places)
-        }
-        Found::Far => Outcome::Refused(4),
-    }
+    let received = Word::received(frame);
+    let doubtful = Word::received(marks);
+    let Some(nearest) = find_marked(received, doubtful) else {
+        return Outcome::Refused(4);
+    };
+    nearest.word.put(word);
+    Outcome::Repaired(nearest.places)
 }
 
 // The same with the word in the answer, all 0 on a refusal.

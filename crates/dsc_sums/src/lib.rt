@@ -1,8 +1,7 @@
-// The sums of a word on the check rows, 64 rows at a time. Only the repair calls these functions, with words in which no bit past the 187 is set, which they
-// therefore require.
+// The sums of a word on the check rows, 64 rows at a time.
 #![tactic(auto)]
 
-ghost use Rattle.dsc_words.specs.Words.{held, Fits};
+ghost use Rattle.dsc_words.specs.Words.{held};
 ghost use Rattle.dsc_sums.specs.Sums.{Sums};
 
 use dsc_words::Word;
@@ -24,27 +23,28 @@ pub struct OuterSums {
     pub rows256: u64,
 }
 
-pub fn middle_sums(w: Word) -> MiddleSums
-    requires { Fits w }
-    ensures { Sums (held w) 128 64 result.rows128 × Sums (held w) 192 64 result.rows192 }
+pub fn middle_sums(word: Word) -> MiddleSums
+    ensures rows128 { Sums (held word) 128 64 result.rows128 }
+    ensures rows192 { Sums (held word) 192 64 result.rows192 }
 {
     MiddleSums {
-        rows128: product::limb2(w.low, w.middle, w.high),
-        rows192: product::limb3(w.low, w.middle, w.high),
+        rows128: product::limb2(word),
+        rows192: product::limb3(word),
     }
 }
 
 // The coefficients from x^273 on come round to x^0.
-pub fn outer_sums(w: Word) -> OuterSums
-    requires { Fits w }
-    ensures { Sums (held w) 0 64 result.rows0 × Sums (held w) 64 64 result.rows64 × Sums (held w) 256 17 result.rows256 }
+pub fn outer_sums(word: Word) -> OuterSums
+    ensures rows0 { Sums (held word) 0 64 result.rows0 }
+    ensures rows64 { Sums (held word) 64 64 result.rows64 }
+    ensures rows256 { Sums (held word) 256 17 result.rows256 }
 {
-    let fourth = product::limb4(w.low, w.middle, w.high);
-    let fifth = product::limb5(w.low, w.middle, w.high);
-    let sixth = product::limb6(w.low, w.middle, w.high);
+    let fourth = product::limb4(word);
+    let fifth = product::limb5(word);
+    let sixth = product::limb6(word);
     OuterSums {
-        rows0: product::limb0(w.low, w.middle, w.high) ^ ((fourth >> 17) | (fifth << 47)),
-        rows64: product::limb1(w.low, w.middle, w.high) ^ ((fifth >> 17) | (sixth << 47)),
+        rows0: product::limb0(word) ^ ((fourth >> 17) | (fifth << 47)),
+        rows64: product::limb1(word) ^ ((fifth >> 17) | (sixth << 47)),
         rows256: fourth,
     }
 }

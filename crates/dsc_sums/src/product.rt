@@ -1,21 +1,22 @@
 // The product of a word and the sum of x^d over the differences d, in seven limbs of 64 coefficients: taken modulo x^273 - 1 it is the sums on the check
 // rows. In limb k the word is moved on by d for each d, and what lies outside the limb is left out; the shifts are what the check table's places make of them
-// (`shifts` in specs/Promises). Only this crate calls these functions, with words in which no bit past the 187 is set.
-ghost use Rattle.std.specs.Prelude.{◌^◌, ◌<◌};
-ghost use Rattle.dsc_words.specs.Words.{word_of};
+// (`shifts` in specs/Promises).
+ghost use Rattle.dsc_words.specs.Words.{held};
 ghost use Rattle.dsc_sums.specs.Sums.{Limb};
 
-pub fn limb0(low: u64, middle: u64, high: u64) -> u64
-    requires { high < 2 ^ 59 }
-    ensures { Limb (word_of low middle high) 0 result }
+use dsc_words::Word;
+
+pub fn limb0(word: Word) -> u64
+    ensures { Limb (held word) 0 result }
 {
+    let low = word.low;
     low ^ (low << 18) ^ (low << 24) ^ (low << 46) ^ (low << 50)
 }
 
-pub fn limb1(low: u64, middle: u64, high: u64) -> u64
-    requires { high < 2 ^ 59 }
-    ensures { Limb (word_of low middle high) 1 result }
+pub fn limb1(word: Word) -> u64
+    ensures { Limb (held word) 1 result }
 {
+    let Word { low, middle, .. } = word;
     middle
         ^ ((low >> 46) | (middle << 18))
         ^ ((low >> 40) | (middle << 24))
@@ -28,10 +29,10 @@ pub fn limb1(low: u64, middle: u64, high: u64) -> u64
         ^ (low << 62)
 }
 
-pub fn limb2(low: u64, middle: u64, high: u64) -> u64
-    requires { high < 2 ^ 59 }
-    ensures { Limb (word_of low middle high) 2 result }
+pub fn limb2(word: Word) -> u64
+    ensures { Limb (held word) 2 result }
 {
+    let Word { low, middle, high } = word;
     high ^ ((middle >> 46) | (high << 18))
         ^ ((middle >> 40) | (high << 24))
         ^ ((middle >> 18) | (high << 46))
@@ -48,10 +49,10 @@ pub fn limb2(low: u64, middle: u64, high: u64) -> u64
         ^ (low << 58)
 }
 
-pub fn limb3(low: u64, middle: u64, high: u64) -> u64
-    requires { high < 2 ^ 59 }
-    ensures { Limb (word_of low middle high) 3 result }
+pub fn limb3(word: Word) -> u64
+    ensures { Limb (held word) 3 result }
 {
+    let Word { low, middle, high } = word;
     (high >> 46)
         ^ (high >> 40)
         ^ (high >> 18)
@@ -70,10 +71,10 @@ pub fn limb3(low: u64, middle: u64, high: u64) -> u64
         ^ (low << 9)
 }
 
-pub fn limb4(low: u64, middle: u64, high: u64) -> u64
-    requires { high < 2 ^ 59 }
-    ensures { Limb (word_of low middle high) 4 result }
+pub fn limb4(word: Word) -> u64
+    ensures { Limb (held word) 4 result }
 {
+    let Word { low, middle, high } = word;
     (high >> 25)
         ^ (high >> 16)
         ^ (high >> 13)
@@ -87,10 +88,10 @@ pub fn limb4(low: u64, middle: u64, high: u64) -> u64
         ^ ((low >> 55) | (middle << 9))
 }
 
-pub fn limb5(low: u64, middle: u64, high: u64) -> u64
-    requires { high < 2 ^ 59 }
-    ensures { Limb (word_of low middle high) 5 result }
+pub fn limb5(word: Word) -> u64
+    ensures { Limb (held word) 5 result }
 {
+    let Word { low, middle, high } = word;
     (high >> 33)
         ^ (high >> 26)
         ^ (high >> 25)
@@ -99,9 +100,8 @@ pub fn limb5(low: u64, middle: u64, high: u64) -> u64
         ^ ((middle >> 55) | (high << 9))
 }
 
-pub fn limb6(low: u64, middle: u64, high: u64) -> u64
-    requires { high < 2 ^ 59 }
-    ensures { Limb (word_of low middle high) 6 result }
+pub fn limb6(word: Word) -> u64
+    ensures { Limb (held word) 6 result }
 {
-    (high >> 55)
+    word.high >> 55
 }

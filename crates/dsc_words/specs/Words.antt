@@ -1,5 +1,5 @@
 -- A word of 187 bits in machine words. Assumes nothing.
-use Rattle.std.specs.Prelude.{Bool, List, ◌++◌, ℕ, ◌^◌, ◌<◌}
+use Rattle.std.specs.Prelude.{Bool, List, ◌++◌, ℕ}
 use Rattle.bits.specs.Bits.{bits_of}
 use Rattle.dsc_words.specs.declared.Word.{Word}
 
@@ -10,7 +10,3 @@ word_of low middle high = bits_of 59 high ++ (bits_of 64 middle ++ bits_of 64 lo
 -- the same of the struct
 abbrev pub held : Word → List Bool
 held w = word_of w.low w.middle w.high
-
--- no bit past the 187 is set
-abbrev pub Fits : Word → Type 0
-Fits w = w.high < 2 ^ 59

@@ -1,8 +1,7 @@
 // Words of 64 bits as 64 lanes side by side: adders that add up a bit of each lane at once.
 #![tactic(auto)]
 
-ghost use Rattle.std.specs.Prelude.{◌≡◌, [], ◌∷◌, ℕ, ◌+◌, ◌*◌, ◌≤◌, leb};
-ghost use Rattle.std.specs.Int.Count as digits;
+ghost use Rattle.std.specs.Prelude.{◌≡◌, [], ◌∷◌, ℕ, ◌+◌, ◌*◌, leb};
 ghost use Rattle.bits.specs.Bits.{digit};
 ghost use Rattle.lanes.specs.Lane.{lane, set_in};
 
@@ -71,11 +70,4 @@ pub fn at_least_nine(
     let fours = half_adder(m.sum, twos.carry);
     let eights = half_adder(m.carry, fours.carry);
     eights.carry | (eights.sum & ((ones.sum | twos.sum) | fours.sum))
-}
-
-// How many bits of x are set.
-pub fn ones(x: u64) -> u32
-    ensures { (result ≡ digits.ones x) × (result ≤ 64) }
-{
-    u64::count_ones(x)
 }

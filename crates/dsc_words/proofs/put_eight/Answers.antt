@@ -1,32 +1,28 @@
 -- `dsc_words::put_eight` meets its contract: what has been stored are the first i bytes of n. Assumes nothing.
-use mathlib.Core.Path.{◌≡◌, refl, sym, ap, ap₂, ◌∙◌}
-use Prim.Native.Nat.{◌+◌, ◌-◌}
+use mathlib.Core.Path.{◌≡◌, sym, ap, ap₂, ◌∙◌}
+use Prim.Native.Nat.{◌+◌}
 use native.Mathlib.Omega.{arith}
-use lib.ListN.{length, take, set}
-use lib.Seq.{sets, length-sets, take_all}
+use lib.ListN.{take, set}
+use lib.Seq.{sets, take_all}
 use Rattle.bits.specs.Bits.{bits_of, bytes}
 use Rattle.bits.proofs.Bits.{length-bytes}
 use Rattle.bits.proofs.Slices.{sets-next}
 use Rattle.dsc_words.proofs.Loading.{word_byte}
 use Rattle.dsc_words.proofs.put_eight.Goals as goal
 
-pub loop-i-init : goal.loop-i-init
-loop-i-init c = (refl, omega arith, refl)
-
 pub loop-i-preserved : goal.loop-i-preserved
 loop-i-preserved c =
     let s = c.args in
     let i = c.loop-i.i in
     let all = bytes 8 (bits_of 64 s.n) in
-    let stored = ap₂ (λ o v. set o (s.at + i) v) c.loop-i.invariant.0 (c.low_byte.ensures ∙ sym (word_byte s.n i (omega arith)))
-    ∙ sets-next s.out.now all s.at i (omega (arith, length-bytes 8 (bits_of 64 s.n))) in
-    (stored, omega arith, ap length stored ∙ length-sets s.out.now s.at (take (i + 1) all))
+    ap₂ (λ o v. set o (s.at + i) v) c.loop-i.invariant (c.low_byte.ensures ∙ sym (word_byte s.n i (omega arith)))
+    ∙ sets-next s.out.now all s.at i (omega (arith, length-bytes 8 (bits_of 64 s.n)))
 
 pub returns : goal.returns
 returns c =
     let s = c.args in
     let i = c.loop-i.i in
     let all = bytes 8 (bits_of 64 s.n) in
-    c.loop-i.invariant.0
+    c.loop-i.invariant
     ∙ ap (sets s.out.now s.at)
     (ap (λ k. take k all) (let e : i ≡ 8 = omega arith in e) ∙ take_all 8 all (omega (arith, length-bytes 8 (bits_of 64 s.n))))

@@ -1,13 +1,9 @@
 use mathlib.Core.Path.{◌≡◌}
-use Prim.Native.Nat.{◌-◌, ◌≤◌}
-use lib.ListN.{length, take}
+use lib.ListN.{take}
 use lib.Seq.{sets}
 use Rattle.bits.specs.Bits.{bits_of, bytes}
 use Rattle.dsc_words.proofs.put_eight.Given as goal
 
--- `dsc_words::put_eight` meets its contract: what has been stored are the first i bytes of n. Assumes nothing.
+-- What has been stored are the first i bytes of n. Assumes nothing.
 abbrev pub invariant-loop-i : goal.invariant-loop-i
-invariant-loop-i l = (l.out ≡ sets l.initial.out l.at (take l.i (bytes 8 (bits_of 64 l.n)))) × (l.i ≤ 8) × (length l.out ≡ length l.initial.out)
-
-abbrev pub decreases-loop-i : goal.decreases-loop-i
-decreases-loop-i l = 8 - l.i
+invariant-loop-i l = l.out ≡ sets l.initial.out l.at (take l.i (bytes 8 (bits_of 64 l.n)))

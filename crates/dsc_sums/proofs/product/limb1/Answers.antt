@@ -6,4 +6,6 @@ use Rattle.dsc_sums.proofs.product.limb1.Goals as goal
 
 pub returns : goal.returns
 unfolding differences
-returns c = limb-of c.args.low c.args.middle c.args.high (search rules) (search rules) c.requires 1
+returns c =
+    let w = c.args.word in
+    limb-of w.low w.middle w.high (search rules) (search rules) w.fits 1
