@@ -4,22 +4,21 @@ use Prim.Native.Nat.{ℕ, zero, suc, ◌≤◌}
 use native.Mathlib.Omega.{arith}
 use lib.Dec.{T}
 use lib.Ieee.{Float}
+use Rattle.std.specs.Prelude.{Option, Some, None}
 use Rattle.place.specs.Degrees.{tenths, degrees_of}
 use Rattle.place.specs.Desk.{same_bits, either_sign, signed_of}
-use Rattle.place.specs.declared.Value.{Value}
-use Rattle.place.specs.declared.Signed.{Signed}
-use Rattle.place.specs.declared.Signed.TheVariants.{At, Nowhere}
+use Rattle.place.specs.declared.SignedTenths.{SignedTenths}
 use Rattle.place.proofs.Equality.{same-both}
 use Rattle.place.proofs.Inverse.{tenths-inverse, tenths-plus, plus-not-neg}
 use Rattle.place.proofs.Search.{Sought, present, absent, sought, unique}
 
 -- the tenths up to the limit, with their flag, whose image x is, or the proof that there are none
-pub data Flagged (limit : ℕ) (x : Float) : Signed → Type 0 where
-  flagged : (flag n : ℕ) → flag ≤ 1 → n ≤ limit → T (same_bits x (degrees_of flag n)) → Flagged limit x (At flag n)
-  unflagged : ((flag n : ℕ) → flag ≤ 1 → n ≤ limit → T (same_bits x (degrees_of flag n)) → ⊥) → Flagged limit x Nowhere
+pub data Flagged (limit : ℕ) (x : Float) : Option SignedTenths → Type 0 where
+  flagged : (flag n : ℕ) → flag ≤ 1 → n ≤ limit → T (same_bits x (degrees_of flag n)) → Flagged limit x (Some (record { flag = flag; tenths = n }))
+  unflagged : ((flag n : ℕ) → flag ≤ 1 → n ≤ limit → T (same_bits x (degrees_of flag n)) → ⊥) → Flagged limit x None
 
 module _ (limit : ℕ) (x : Float) where
-  either-flag : (v w : Value) → Sought (degrees_of 0) (suc limit) x v → Sought (degrees_of 1) (suc limit) x w → Flagged limit x (either_sign v w)
+  either-flag : (v w : Option ℕ) → Sought (degrees_of 0) (suc limit) x v → Sought (degrees_of 1) (suc limit) x w → Flagged limit x (either_sign v w)
   either-flag v w (present n h t) s = flagged 0 n (omega arith) (omega arith) t
   either-flag v w (absent none) (present n h t) = flagged 1 n (omega arith) (omega arith) t
   either-flag v w (absent without) (absent negated) = unflagged never

@@ -2,14 +2,14 @@
 use mathlib.Core.Path.{◌≡◌}
 use Prim.Native.Nat.{ℕ, ◌≤◌}
 use native.Mathlib.Omega.{arith}
+use Rattle.std.specs.Prelude.{Option}
 use Rattle.place.specs.Degrees.{kilometres_of, place_of}
 use Rattle.place.specs.Desk.{Allowed, SameBits, joined, conversion_of}
 use Rattle.place.specs.declared.Place.{Place}
 use Rattle.place.specs.declared.Fields.{Fields}
 use Rattle.place.specs.declared.Conversion.{Conversion}
 use Rattle.place.specs.declared.Conversion.TheVariants.{Converted, Refused}
-use Rattle.place.specs.declared.Value.{Value}
-use Rattle.place.specs.declared.Signed.{Signed}
+use Rattle.place.specs.declared.SignedTenths.{SignedTenths}
 use Rattle.place.proofs.Inverse.{kilometres-inverse}
 use Rattle.place.proofs.Search.{Sought, present, absent, sought, unique}
 use Rattle.place.proofs.Flags.{Flagged, flagged, unflagged, signed, one-flag}
@@ -23,7 +23,7 @@ abbrev made : (south latitude west longitude depth : ℕ) → Fields
 made s n w m k = record { south = s; latitude = n; west = w; longitude = m; depth = k }
 
 module _ (p : Place) where
-  join : (a b : Signed) (d : Value) → Flagged 900 p.latitude a → Flagged 1800 p.longitude b → Sought kilometres_of 1024 p.depth d → Answered p (joined a b d)
+  join : (a b : Option SignedTenths) (d : Option ℕ) → Flagged 900 p.latitude a → Flagged 1800 p.longitude b → Sought kilometres_of 1024 p.depth d → Answered p (joined a b d)
   join a b d (flagged s n s1 h t) (flagged w m w1 l u) (present k j v) =
       let depth : k ≤ 1023 = omega arith in
       placed _ (record { south = s1; latitude = h; west = w1; longitude = l; depth = depth })

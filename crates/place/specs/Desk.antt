@@ -1,5 +1,5 @@
 -- The desk's place, three doubles, as field values (document 01, "The place in degrees"). Assumes nothing.
-use Rattle.std.specs.Prelude.{Bool, cond, not, ◌&&◌, List, [], ◌∷◌, ℕ, zero, suc, ◌≤◌, T, eqb, Float}
+use Rattle.std.specs.Prelude.{Bool, cond, not, ◌&&◌, List, [], ◌∷◌, ℕ, zero, suc, ◌≤◌, T, eqb, Float, Option, Some, None}
 use Rattle.std.specs.Float.{binary64}
 use Rattle.std.specs.Float.Ieee.{to_bits, is_nan}
 use Rattle.place.specs.Degrees.{degrees_of, kilometres_of}
@@ -7,10 +7,7 @@ use Rattle.place.specs.declared.Place.{Place}
 use Rattle.place.specs.declared.Fields.{Fields}
 use Rattle.place.specs.declared.Conversion.{Conversion}
 use Rattle.place.specs.declared.Conversion.TheVariants.{Converted, Refused}
-use Rattle.place.specs.declared.Value.{Value}
-use Rattle.place.specs.declared.Value.TheVariants.{Of, Missing}
-use Rattle.place.specs.declared.Signed.{Signed}
-use Rattle.place.specs.declared.Signed.TheVariants.{At, Nowhere}
+use Rattle.place.specs.declared.SignedTenths.{SignedTenths}
 
 -- the field values that a place may have, in tenths of a degree and kilometres
 pub record Allowed (f : Fields) : Type 0 where
@@ -31,29 +28,29 @@ pub record SameBits (p q : Place) : Type 0 where
   pub depth : T (same_bits p.depth q.depth)
 
 -- the number below n whose image has the very bits of x
-unfoldable pub seek : (image : ℕ → Float) (n : ℕ) → Float → Value
-seek image zero x = Missing
-seek image (suc k) x = cond (same_bits x (image k)) (Of k) (seek image k x)
+unfoldable pub seek : (image : ℕ → Float) (n : ℕ) → Float → Option ℕ
+seek image zero x = None
+seek image (suc k) x = cond (same_bits x (image k)) (Some k) (seek image k x)
 
 -- the value of no more than the limit
-abbrev pub value_of : (image : ℕ → Float) (limit : ℕ) → Float → Value
+abbrev pub value_of : (image : ℕ → Float) (limit : ℕ) → Float → Option ℕ
 value_of image limit x = seek image (suc limit) x
 
 -- a value with its flag: without it, or else with it
-abbrev pub either_sign : Value → Value → Signed
-either_sign (Of n) v = At 0 n
-either_sign Missing (Of n) = At 1 n
-either_sign Missing Missing = Nowhere
+abbrev pub either_sign : Option ℕ → Option ℕ → Option SignedTenths
+either_sign (Some n) v = Some (record { flag = 0; tenths = n })
+either_sign None (Some n) = Some (record { flag = 1; tenths = n })
+either_sign None None = None
 
-unfoldable pub signed_of : (limit : ℕ) → Float → Signed
+unfoldable pub signed_of : (limit : ℕ) → Float → Option SignedTenths
 signed_of limit x = either_sign (value_of (degrees_of 0) limit x) (value_of (degrees_of 1) limit x)
 
 -- all three, or refusal 11
-abbrev pub joined : (latitude longitude : Signed) (depth : Value) → Conversion
-joined (At s n) (At w m) (Of k) = Converted (record { south = s; latitude = n; west = w; longitude = m; depth = k })
-joined (At s n) (At w m) Missing = Refused 11
-joined (At s n) Nowhere d = Refused 11
-joined Nowhere l d = Refused 11
+abbrev pub joined : (latitude longitude : Option SignedTenths) (depth : Option ℕ) → Conversion
+joined (Some a) (Some b) (Some k) = Converted (record { south = a.flag; latitude = a.tenths; west = b.flag; longitude = b.tenths; depth = k })
+joined (Some a) (Some b) None = Refused 11
+joined (Some a) None d = Refused 11
+joined None l d = Refused 11
 
 -- what `fields_of` answers
 unfoldable pub conversion_of : Place → Conversion

@@ -29,16 +29,9 @@ pub enum Conversion {
     Refused(u8),
 }
 
-// The field value that a double is the image of.
+// Tenths of a degree with the flag for south or west, which is 1.
 #[derive(Clone, Copy)]
-pub enum Value {
-    Of(u64),
-    Missing,
-}
-
-// The same with the flag for south or west.
-#[derive(Clone, Copy)]
-pub enum Signed {
-    At { flag: u64, tenths: u64 },
-    Nowhere,
+pub struct SignedTenths {
+    pub flag: u64,
+    pub tenths: u64,
 }

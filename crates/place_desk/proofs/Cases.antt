@@ -1,12 +1,8 @@
 -- The cases of the definitions, as the functions come to them. Assumes nothing.
 use Rattle.std.proofs.Common.{◌≡◌, ℕ, true, false, pos, eq-eqb, ne_eqb}
 use lib.Ieee.{Float, fin, binary64, mul, neg, lt, to_unsigned}
-use Rattle.place.specs.Degrees.{whole, degrees_of, kilometres_of}
-use Rattle.place.specs.Desk.{value_of, either_sign, signed_of, joined, conversion_of}
+use Rattle.place.specs.Degrees.{whole}
 use Rattle.place.specs.Candidate.{truncated, tenths_near}
-use Rattle.place.specs.declared.Place.{Place}
-use Rattle.place.specs.declared.Value.{Value}
-use Rattle.place.specs.declared.Signed.{Signed}
 
 -- ---- the number near x
 
@@ -33,15 +29,3 @@ module _ (x : Float) where
   pub truncated-below : lt (fin true 1 (pos 0)) x ≡ false → 65535 ≡ truncated x
   unfolding truncated
   truncated-below e = rw e
-
--- ---- a value with its flag, and all three
-
-pub either : (limit : ℕ) (x : Float) (v w : Value) → v ≡ value_of (degrees_of 0) limit x → w ≡ value_of (degrees_of 1) limit x
-    → either_sign v w ≡ signed_of limit x
-unfolding signed_of
-either limit x v w e f = rw (e, f)
-
-pub conversion : (p : Place) (a b : Signed) (d : Value) → a ≡ signed_of 900 p.latitude → b ≡ signed_of 1800 p.longitude
-    → d ≡ value_of kilometres_of 1023 p.depth → joined a b d ≡ conversion_of p
-unfolding conversion_of
-conversion p a b d e f g = rw (e, f, g)

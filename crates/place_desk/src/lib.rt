@@ -6,7 +6,10 @@ ghost use Rattle.place.specs.Degrees.{degrees_of, kilometres_of};
 ghost use Rattle.place.specs.Desk.{same_bits, value_of, signed_of, conversion_of};
 ghost use Rattle.place.specs.Candidate.{truncated, tenths_near};
 
-use place::{Conversion, Fields, Place, Signed, Value};
+use place::{Conversion, Fields, Place, SignedTenths};
+
+// The largest depth of a field, in kilometres.
+const DEEPEST: u64 = 1023;
 
 // The bits of a NaN are nobody's.
 fn same_bits(x: f64, y: f64) -> bool
@@ -43,74 +46,60 @@ fn tenths_near(flag: u64, x: f64) -> u64
 }
 
 // The tenths of a degree, at most the limit, whose image with this flag x is.
-fn tenths_of(flag: u64, limit: u64, x: f64) -> Value
+fn tenths_of(flag: u64, limit: u64, x: f64) -> Option<u64>
     requires { limit ≤ 1800 }
     ensures { result ≡ value_of (degrees_of flag) limit x }
 {
     let n = tenths_near(flag, x);
     if limit < n {
-        return Value::Missing;
+        return None;
     }
-    if same_bits(x, place_images::degrees(flag, n)) {
-        return Value::Of(n);
-    }
-    Value::Missing
+    same_bits(x, place_images::degrees(flag, n)).then_some(n)
 }
 
 // With either flag.
-fn signed_of(limit: u64, x: f64) -> Signed
+#[tactic(auto, unfolding(place::specs::Desk::signed_of))]
+fn signed_of(limit: u64, x: f64) -> Option<SignedTenths>
     requires { limit ≤ 1800 }
     ensures { result ≡ signed_of limit x }
 {
-    match tenths_of(0, limit, x) {
-        Value::Of(n) => Signed::At { flag: 0, tenths: n },
-        Value::Missing => match tenths_of(1, limit, x) {
-            Value::Of(n) => Signed::At { flag: 1, tenths: n },
-            Value::Missing => Signed::Nowhere,
-        },
+    if let Some(tenths) = tenths_of(0, limit, x) {
+        return Some(SignedTenths { flag: 0, tenths });
     }
+    let tenths = tenths_of(1, limit, x)?;
+    Some(SignedTenths { flag: 1, tenths })
 }
 
 // The kilometres whose image x is.
-fn depth_of(x: f64) -> Value
+fn depth_of(x: f64) -> Option<u64>
     ensures { result ≡ value_of kilometres_of 1023 x }
 {
     let n = whole_part(x);
-    if 1023 < n {
-        return Value::Missing;
+    if DEEPEST < n {
+        return None;
     }
-    if same_bits(x, place_images::kilometres(n)) {
-        return Value::Of(n);
-    }
-    Value::Missing
+    same_bits(x, place_images::kilometres(n)).then_some(n)
 }
 
 // The field values of the desk's place, or refusal 11.
+#[tactic(auto, unfolding(place::specs::Desk::conversion_of))]
 pub fn fields_of(place: Place) -> Conversion
     ensures { result ≡ conversion_of place }
 {
-    let Signed::At {
-        flag: south,
-        tenths: latitude,
-    } = signed_of(900, place.latitude)
-    else {
+    let Some(latitude) = signed_of(900, place.latitude) else {
         return Conversion::Refused(11);
     };
-    let Signed::At {
-        flag: west,
-        tenths: longitude,
-    } = signed_of(1800, place.longitude)
-    else {
+    let Some(longitude) = signed_of(1800, place.longitude) else {
         return Conversion::Refused(11);
     };
-    let Value::Of(depth) = depth_of(place.depth) else {
+    let Some(depth) = depth_of(place.depth) else {
         return Conversion::Refused(11);
     };
     Conversion::Converted(Fields {
-        south,
-        latitude,
-        west,
-        longitude,
+        south: latitude.flag,
+        latitude: latitude.tenths,
+        west: longitude.flag,
+        longitude: longitude.tenths,
         depth,
     })
 }
