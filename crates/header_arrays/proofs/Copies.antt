@@ -1,13 +1,15 @@
 -- Runs of values taken out of a list and put into one. Assumes nothing.
-use mathlib.Core.Path.{◌≡◌, refl, sym, ap, ap₂, subst, ◌∙◌}
+use mathlib.Core.Path.{◌≡◌, refl, sym, ap, ap₂, ◌∙◌}
 use mathlib.Core.Bool.{◌||◌}
 use mathlib.Core.List.{List, [], ◌∷◌, ◌++◌, append-nil}
 use Prim.Native.Nat.{ℕ, zero, suc, ◌+◌, ◌*◌, ◌≤◌, ◌<◌}
-use native.Mathlib.Nat.{suc_inj, mul-suc, mul-le-mul_left}
+use native.Mathlib.Nat.{suc_inj, mul-suc}
 use native.Mathlib.Numerals.{add-one}
 use native.Mathlib.Omega.{arith}
 use lib.Dec.{eqb}
-use lib.ListN.{length, get_or, take, drop, set, replicate, length-append, length-replicate}
+use Rattle.std.specs.List.{list_any}
+use Rattle.std.proofs.lemmas.Bool.Decides.{nat_tests}
+use lib.ListN.{length, get_or, take, drop, set, length-append}
 use lib.Seq.{paste, paste-suc, take_at, take_all, drop-cons, drop-drop, drop-length, drop-append-add, set_at, append_snoc}
 use Rattle.gf2.specs.Polynomial.{member}
 use Rattle.header.specs.Fields.{run, pairs}
@@ -15,12 +17,6 @@ use Rattle.header.proofs.Fields.{length_run}
 use Rattle.header_arrays.specs.Placed.{placed}
 
 -- ---- a run
-
--- place i of a run of n values lies in the list
-pub run_room : (k d i n m : ℕ) → i < n → k + d * n < m + d → k + d * i < m
-run_room k d i n m h r =
-    let l : d * suc i ≤ d * n = mul-le-mul_left d h in
-    omega (arith, mul-suc d i)
 
 pub run-snoc : (v : List ℕ) (k d n : ℕ) → run v k d (suc n) ≡ run v k d n ++ get_or v (k + d * n) 0 ∷ []
 unfolding run
@@ -42,24 +38,12 @@ run-turn v out k d i h =
 pub place-next : (k d i at : ℕ) → at ≡ k + d * i → at + d ≡ k + d * (i + 1)
 place-next k d i at e = rw add-one (omega (arith, mul-suc d i))
 
--- an array of n places has room for a run
-pub run_fits : (z : List ℕ) (k d n m : ℕ) → z ≡ replicate n 0 → (k + d * n < m + d) × (d < 65536) × (m < 65536)
-    → (k + d * length z < m + d) × (d < 65536) × (m < 65536)
-run_fits z k d n m e h = (subst (λ (j : ℕ). k + d * j < m + d) (sym (ap length e ∙ length-replicate n 0)) h.0, h.1, h.2)
-
--- a run that fills n places
-pub run-taken : (v : List ℕ) {out : List ℕ} (z : List ℕ) (k d n : ℕ) → out ≡ run v k d (length z) → z ≡ replicate n 0 → out ≡ run v k d n
-run-taken v z k d n e f = e ∙ ap (run v k d) (ap length f ∙ length-replicate n 0)
-
 -- ---- values after each other
 
 -- the other laws cite this one
 pub placed-paste : (o : List ℕ) (k : ℕ) (s : List ℕ) → placed o k s ≡ paste o k s (length s)
 unfolding placed
 placed-paste o k s = refl
-
-pub paste-next : (o s : List ℕ) (k i : ℕ) → k + i < length o → i < length s → set (paste o k s i) (k + i) (get_or s i 0) ≡ paste o k s (i + 1)
-paste-next o s k i ho hs = rw add-one (paste-suc o k s i 0 ho hs)
 
 -- ---- pairs
 
@@ -136,6 +120,11 @@ filled-all {p} {z} {v} {k} f e = f.is ∙ ap (p ++◌) (ap (λ (n : ℕ). drop n
 
 -- ---- a search
 
-pub member-next : (x : ℕ) (v : List ℕ) (i : ℕ) → i < length v → member x (drop i v) ≡ (eqb x (get_or v i 0) || member x (drop (i + 1) v))
+eqb_swap : (x y : ℕ) → eqb x y ≡ eqb y x
+eqb_swap x y = grind (arith, nat_tests)
+
+-- a search from the left, as `contains` does it
+pub member_any : (x : ℕ) (v : List ℕ) → member x v ≡ list_any (λ y. eqb y x) v
 unfolding member
-member-next x v i h = rw (add-one, drop-cons v i 0 h)
+member_any x [] = refl
+member_any x (y ∷ v) = ap₂ (◌||◌) (eqb_swap x y) (member_any x v)

@@ -7,28 +7,11 @@ ghost use Rattle.header.specs.Fields.{run, pairs};
 ghost use Rattle.gf2.specs.Polynomial.{member};
 ghost use Rattle.header_arrays.specs.Placed.{placed};
 
-fn zeros15() -> [u64; 15]
-    ensures { result ≡ replicate 15 0 }
+// N zeros.
+pub fn zeros<const N: usize>() -> [u64; N]
+    ensures { result ≡ replicate N 0 }
 {
-    [0; 15]
-}
-
-pub fn zeros26() -> [u64; 26]
-    ensures { result ≡ replicate 26 0 }
-{
-    [0; 26]
-}
-
-fn zeros52() -> [u64; 52]
-    ensures { result ≡ replicate 52 0 }
-{
-    [0; 52]
-}
-
-pub fn zeros119() -> [u64; 119]
-    ensures { result ≡ replicate 119 0 }
-{
-    [0; 119]
+    [0; N]
 }
 
 // The values from number k on in steps of d. Here and below it is required that the values lie in the list: the numbers are those of the layout, written
@@ -38,47 +21,18 @@ fn take_run(v: &[u64], k: usize, d: usize, out: &mut [u64])
     ensures { out.new ≡ run v.now k d (length out.old) }
 {
     let mut at = k;
-    let mut i = 0;
-    while i < out.len() {
-        out[i] = v[at];
+    for value in out.iter_mut() {
+        *value = v[at];
         at += d;
-        i += 1;
     }
 }
 
-// The same as an array.
-pub fn run15(v: &[u64], k: usize, d: usize) -> [u64; 15]
-    requires { (k + d * 15 < length v.now + d) × (d < 65536) × (length v.now < 65536) }
-    ensures { result ≡ run v.now k d 15 }
+// N of them, as an array.
+pub fn run<const N: usize>(v: &[u64], k: usize, d: usize) -> [u64; N]
+    requires { (k + d * N < length v.now + d) × (d < 65536) × (length v.now < 65536) }
+    ensures { result ≡ run v.now k d N }
 {
-    let mut out = zeros15();
-    take_run(v, k, d, &mut out);
-    out
-}
-
-pub fn run26(v: &[u64], k: usize, d: usize) -> [u64; 26]
-    requires { (k + d * 26 < length v.now + d) × (d < 65536) × (length v.now < 65536) }
-    ensures { result ≡ run v.now k d 26 }
-{
-    let mut out = zeros26();
-    take_run(v, k, d, &mut out);
-    out
-}
-
-pub fn run52(v: &[u64], k: usize, d: usize) -> [u64; 52]
-    requires { (k + d * 52 < length v.now + d) × (d < 65536) × (length v.now < 65536) }
-    ensures { result ≡ run v.now k d 52 }
-{
-    let mut out = zeros52();
-    take_run(v, k, d, &mut out);
-    out
-}
-
-pub fn run119(v: &[u64], k: usize, d: usize) -> [u64; 119]
-    requires { (k + d * 119 < length v.now + d) × (d < 65536) × (length v.now < 65536) }
-    ensures { result ≡ run v.now k d 119 }
-{
-    let mut out = zeros119();
+    let mut out = zeros::<N>();
     take_run(v, k, d, &mut out);
     out
 }
@@ -88,11 +42,7 @@ pub fn put_values(s: &[u64], out: &mut [u64], k: usize)
     requires { k + length s.now ≤ length out.old }
     ensures { out.new ≡ placed out.old k s.now }
 {
-    let mut i = 0;
-    while i < s.len() {
-        out[k + i] = s[i];
-        i += 1;
-    }
+    out[k..k + s.len()].copy_from_slice(s);
 }
 
 // Two lists of values in turn, from number k on.
@@ -100,24 +50,16 @@ pub fn put_pairs(s: &[u64], t: &[u64], out: &mut [u64], k: usize)
     requires { (length t.now ≡ length s.now) × (k + 2 * length s.now ≤ length out.old) }
     ensures { out.new ≡ placed out.old k (pairs s.now t.now) }
 {
-    let mut i = 0;
-    while i < s.len() {
-        out[k + 2 * i] = s[i];
+    for (i, x) in s.iter().enumerate() {
+        out[k + 2 * i] = *x;
         out[k + 2 * i + 1] = t[i];
-        i += 1;
     }
 }
 
 // Whether x is among the values.
+#[tactic(auto, using(crate::proofs::Copies::member_any))]
 pub fn has(v: &[u64], x: u64) -> bool
     ensures { result ≡ member x v.now }
 {
-    let mut i = 0;
-    while i < v.len() {
-        if x == v[i] {
-            return true;
-        }
-        i += 1;
-    }
-    false
+    v.contains(&x)
 }

@@ -1,13 +1,9 @@
-use mathlib.Core.Path.{◌≡◌}
-use Prim.Native.Nat.{◌-◌, ◌*◌, ◌≤◌}
-use lib.ListN.{length}
-use lib.Seq.{paste}
+use Rattle.std.proofs.Common.{◌≡◌, ◌*◌, length}
+use Rattle.std.proofs.Math.Seq.{paste}
 use Rattle.header.specs.Fields.{pairs}
 use Rattle.header_arrays.proofs.put_pairs.Given as goal
 
 -- `header_arrays::put_pairs` meets its contract. Assumes nothing.
 abbrev pub invariant-loop-i : goal.invariant-loop-i
-invariant-loop-i l = (l.i ≤ length l.s) × (length l.out ≡ length l.initial.out) × (l.out ≡ paste l.initial.out l.k (pairs l.s l.t) (2 * l.i))
-
-abbrev pub decreases-loop-i : goal.decreases-loop-i
-decreases-loop-i l = length l.s - l.i
+invariant-loop-i l =
+    record { long : length l.out ≡ length l.initial.out; put : l.out ≡ paste l.initial.out l.k (pairs l.s l.t) (2 * l.i) }
