@@ -14,12 +14,9 @@ pub fn read_all(s: &[u8], ws: &[usize], out: &mut [u64])
     ensures { out.new ≡ unpack ws.now (bits s.now) }
 {
     let mut at = 0;
-    let mut j = 0;
-    while j < ws.len() {
-        let w = ws[j];
-        out[j] = bit_fields::read_wide(s, at, w);
-        at += w;
-        j += 1;
+    for (j, width) in ws.iter().enumerate() {
+        out[j] = bit_fields::read_wide(s, at, *width);
+        at += *width;
     }
 }
 
@@ -31,12 +28,9 @@ pub fn write_all(buf: &mut [u8], ws: &[usize], vs: &[u64])
     ensures { bits buf.new ≡ pack ws.now vs.now ++ drop (sum ws.now) (bits buf.old) }
 {
     let mut at = 0;
-    let mut j = 0;
-    while j < ws.len() {
-        let w = ws[j];
-        bit_fields::write_field(buf, at, w, vs[j]);
-        at += w;
-        j += 1;
+    for (width, value) in ws.iter().zip(vs) {
+        bit_fields::write_field(buf, at, *width, *value);
+        at += *width;
     }
 }
 
@@ -54,17 +48,7 @@ fn fits(w: usize, v: u64) -> bool
 pub fn fits_all(ws: &[usize], vs: &[u64]) -> bool
     ensures { result ≡ fitb ws.now vs.now }
 {
-    if vs.len() != ws.len() {
-        return false;
-    }
-    let mut j = 0;
-    while j < ws.len() {
-        if !fits(ws[j], vs[j]) {
-            return false;
-        }
-        j += 1;
-    }
-    true
+    vs.len() == ws.len() && ws.iter().zip(vs).all(|(width, value)| fits(*width, *value))
 }
 
 // v is w bits that are all 1.

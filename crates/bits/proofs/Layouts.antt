@@ -12,6 +12,7 @@ use borrow.Author.Tests.{leb-true, ltb-true, lt-ltb}
 use lib.ListN.{length, get_or, set, take, drop, length-append, length-take, length-drop, take-append-drop, drop_of_length-le}
 use lib.Seq.{paste, take-suc, take_at, drop_at, length-take-le, set_at, drop-cons, drop-drop, take_all, drop-append-add, append_snoc}
 use lib.Pow.{pow_mono}
+use Rattle.std.specs.List.{zip, list_all}
 use Rattle.bits.specs.Bits.{value, bits_of, bits, bytes, Bytes}
 use Rattle.bits.specs.Layout.{pack, unpack, sum, Fit, fitb, Narrow, narrowb, Layout, layoutb}
 use Rattle.bits.proofs.Bits.{length-bits_of, value-lt, value-take-lt, bits_of-value, value-bits_of-fit, length-bits, bytes-bits, bits-bytes}
@@ -196,8 +197,9 @@ fitb-length (w ∷ ws) [] h = refl
 fitb-length (w ∷ ws) (v ∷ vs) h =
     ap (λ (t : Bool). ltb v (2 ^ w) && t) (fitb-length ws vs (λ e. h (ap suc e))) ∙ and-false (ltb v (2 ^ w))
 
-pub fitb-next : (ws vs : List ℕ) (j : ℕ) (b : Bool) → j < length ws → length vs ≡ length ws → ltb (get_or vs j 0) (2 ^ get_or ws j 0) ≡ b
-    → fitb (drop j ws) (drop j vs) ≡ (b && fitb (drop (j + 1) ws) (drop (j + 1) vs))
-fitb-next ws vs j b h e t =
-    let hv : j < length vs = omega arith in
-    rw (add-one, drop-cons ws j 0 h, drop-cons vs j 0 hv, t)
+-- as many values as fields: each value is tested with the width of its own field
+pub fitb-all : (ws vs : List ℕ) → length vs ≡ length ws → fitb ws vs ≡ list_all (λ p. ltb p.1 (2 ^ p.0)) (zip ws vs)
+fitb-all [] [] e = refl
+fitb-all [] (v ∷ vs) e = absurd (omega arith)
+fitb-all (w ∷ ws) [] e = absurd (omega arith)
+fitb-all (w ∷ ws) (v ∷ vs) e = ap (ltb v (2 ^ w) &&◌) (fitb-all ws vs (suc_inj e))

@@ -1,37 +1,17 @@
-use mathlib.Core.Path.{◌≡◌, ◌∙◌, ap, ap₂, sym, refl}
-use mathlib.Core.Bool.{true, false}
-use mathlib.Core.List.{List}
-use Prim.Native.Nat.{ℕ, ◌-◌}
-use native.Mathlib.Omega.{arith}
-use lib.ListN.{length, drop}
-use lib.Seq.{drop-length}
-use Rattle.bits.specs.Layout.{fitb}
-use Rattle.bits.proofs.Layouts.{fitb-length, fitb-next}
+use Rattle.std.proofs.Common.{◌∙◌, ◌^◌, ltb, ne_eqb, sym, arith, rules, tests}
+use Rattle.std.proofs.lemmas.Iterator.{YieldsList-from_slice, YieldsList-from_zip}
+use Rattle.std.proofs.lemmas.Iterator.Search.{all_from_yields_List}
+use Rattle.bits.proofs.Layouts.{fitb-length, fitb-all}
 use Rattle.bit_layouts.proofs.fits_all.Goals as goal
 
+-- `bit_layouts::fits_all` meets its contract. Assumes nothing.
 pub returns-then-vs-ws : goal.returns-then-vs-ws
 returns-then-vs-ws c =
-    let a = c.args in
-    sym (fitb-length a.ws.now a.vs.now (λ e. omega (arith, e)))
+    let ws = c.args.ws.now in
+    let vs = c.args.vs.now in
+    all_from_yields_List (λ p. ltb p.1 (2 ^ p.0)) c.all.new.self c.all.new.f c.all.result c.all.ensures.ran (YieldsList-from_zip (YieldsList-from_slice ws cc) (YieldsList-from_slice vs cc)) (λ x b q k. search (rules, tests))
+    ∙ sym (fitb-all ws vs (omega (arith, c.if-vs-ws.true)))
 
-pub loop-j-init : goal.loop-j-init
-loop-j-init c = (omega arith, refl)
-
-pub returns-then-not-fits : goal.returns-then-not-fits
-returns-then-not-fits c =
-    let a = c.args in
-    sym (c.loop-j.invariant.1 ∙ fitb-next a.ws.now a.vs.now c.loop-j.j false (omega arith) (omega arith) (sym c.fits.ensures ∙ c.if-not-fits.true))
-
-pub loop-j-preserved : goal.loop-j-preserved
-loop-j-preserved c =
-    let a = c.args in
-    (omega arith, c.loop-j.invariant.1 ∙ fitb-next a.ws.now a.vs.now c.loop-j.j true (omega arith) (omega arith) (sym c.fits.ensures ∙ c.if-not-fits.false))
-
-pub returns : goal.returns
-returns c =
-    let a = c.args in
-    let ws = a.ws.now in
-    let vs = a.vs.now in
-    let e : c.loop-j.j ≡ length ws = omega arith in
-    let f : c.loop-j.j ≡ length vs = omega arith in
-    sym (c.loop-j.invariant.1 ∙ ap₂ (λ (x y : List ℕ). fitb x y) (ap (λ (k : ℕ). drop k ws) e ∙ drop-length ws) (ap (λ (k : ℕ). drop k vs) f ∙ drop-length vs))
+pub returns-else-vs-ws : goal.returns-else-vs-ws
+returns-else-vs-ws c =
+    ne_eqb _ _ c.if-vs-ws.false ∙ sym (fitb-length c.args.ws.now c.args.vs.now c.if-vs-ws.false)

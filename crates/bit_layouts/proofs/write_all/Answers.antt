@@ -1,53 +1,51 @@
-use mathlib.Core.Path.{◌≡◌, ◌∙◌, ap, ap₂, sym, refl}
-use mathlib.Core.Bool.{Bool}
-use mathlib.Core.List.{List, ◌++◌}
-use Prim.Native.Nat.{ℕ, ◌+◌, ◌-◌, ◌<◌}
-use native.Mathlib.Omega.{arith}
-use lib.ListN.{length, get_or, take, drop}
-use lib.Seq.{take-length, paste}
+use Rattle.std.proofs.Common.{◌≡◌, ℕ, List, Bool, ◌∙◌, ◌++◌, ◌+◌, ◌<◌, [], ◌∷◌, ap₂, sym, refl, arith, length, length-append, get_or}
+use Rattle.std.proofs.lemmas.Slice.Zip.{zip_turn}
+use Rattle.std.proofs.Math.Seq.{paste}
 use Rattle.bits.specs.Layout.{pack, sum}
 use Rattle.bits.specs.Bits.{bits, bits_of}
 use Rattle.bits.proofs.Layouts.{pack-next, sum-take, sum-next}
 use Rattle.bits.proofs.Bits.{length-bits}
 use Rattle.bit_layouts.proofs.write_all.Goals as goal
+use Rattle.bit_layouts.proofs.write_all.Goals.{In-Some}
 
-pub loop-j-init : goal.loop-j-init
+-- the width and the value of this turn stand in their lists at the number of turns so far
+turn : (c : In-Some)
+    → (length c.loop-width.yielded < length c.args.ws.now) × (c.in-Some.width.now ≡ get_or c.args.ws.now (length c.loop-width.yielded) 0)
+    × (c.in-Some.value.now ≡ get_or c.args.vs.now (length c.loop-width.yielded) 0)
+turn c =
+    let z = zip_turn c.args.ws.now c.args.vs.now c.loop-width.yielded c.into_iter-width-iterator.result c.loop-width.width-iterator c.next.new.self c.next.result (cc) (cc) c.loop-width.yielded_by (c.in-Some.width, c.in-Some.value) c.in-Some.is c.next.ensures.steps in
+    (z.0, z.2 0, z.3 0)
+
+pub loop-width-init : goal.loop-width-init
 unfolding pack sum
-loop-j-init c = (omega arith, refl, refl, refl)
+loop-width-init c = record { place = refl; long = refl; written = refl }
 
 pub write_field-requires : goal.write_field-requires
 write_field-requires c =
-    let w = c.requires.0 in
-    let n = sum-next c.args.ws.now c.loop-j.j (omega arith) in
-    (omega (arith, w.narrow c.loop-j.j), omega (arith, n, w.room))
+    let ws = c.args.ws.now in
+    let j = length c.loop-width.yielded in
+    let t = turn (goal.at.write_field-requires c).In-Some in
+    let n = sum-next ws j t.0 in
+    (omega (arith, t.1, c.requires.0.narrow j), omega (arith, t.1, n, c.requires.0.room))
 
 pub overflow_add-at : goal.overflow_add-at
 overflow_add-at c =
-    omega (arith, sum-next c.args.ws.now c.loop-j.j (omega arith), c.requires.0.short)
+    let t = turn (goal.at.overflow_add-at c).In-Some in
+    omega (arith, t.1, sum-next c.args.ws.now (length c.loop-width.yielded) t.0, c.requires.0.short)
 
-pub loop-j-preserved : goal.loop-j-preserved
-loop-j-preserved c =
-    let a = c.args in
-    let ws = a.ws.now in
-    let vs = a.vs.now in
-    let h : c.loop-j.j < length ws = omega arith in
-    let w = get_or ws c.loop-j.j 0 in (
-      omega arith,
-      ap (λ (k : ℕ). k + w) c.loop-j.invariant.1 ∙ sym (sum-take ws c.loop-j.j h),
-      c.write_field.auto.s ∙ c.loop-j.invariant.2,
-      c.write_field.ensures ∙ ap₂ (λ (o : List Bool) (k : ℕ). paste o k (bits_of w (get_or vs c.loop-j.j 0)) w) c.loop-j.invariant.3 c.loop-j.invariant.1
-          ∙ pack-next ws vs (bits a.buf.now) c.loop-j.j h c.requires.1 (omega (arith, length-bits a.buf.now, c.requires.0.room)),
-    )
-
-pub shape_of-buf : goal.shape_of-buf
-shape_of-buf c = c.loop-j.invariant.2
-
-pub returns : goal.returns
-returns c =
-    let a = c.args in
-    let ws = a.ws.now in
-    let vs = a.vs.now in
-    let s = bits a.buf.now in
-    let e : c.loop-j.j ≡ length ws = omega arith in
-    c.loop-j.invariant.3 ∙ ap (λ (k : ℕ). pack (take k ws) (take k vs) ++ drop (sum (take k ws)) s) e
-    ∙ ap₂ (λ (x y : List ℕ). pack x y ++ drop (sum x) s) (take-length ws) (ap (λ (k : ℕ). take k vs) (sym c.requires.1) ∙ take-length vs)
+pub loop-width-preserved : goal.loop-width-preserved
+loop-width-preserved c =
+    let ws = c.args.ws.now in
+    let vs = c.args.vs.now in
+    let j = length c.loop-width.yielded in
+    let t = turn (goal.at.loop-width-preserved c).In-Some in
+    let n : length (c.loop-width.yielded ++ (c.in-Some.width, c.in-Some.value) ∷ []) ≡ j + 1 = simp length-append in
+    rw n
+    record {
+      place = ap₂ (◌+◌) c.loop-width.invariant.place t.1 ∙ sym (sum-take ws j t.0);
+      long = c.write_field.auto.s ∙ c.loop-width.invariant.long;
+      written =
+          c.write_field.ensures ∙ ap₂ (λ (w v : ℕ). paste (bits c.loop-width.buf) c.loop-width.at (bits_of w v) w) t.1 t.2
+          ∙ ap₂ (λ (o : List Bool) (k : ℕ). paste o k (bits_of (get_or ws j 0) (get_or vs j 0)) (get_or ws j 0)) c.loop-width.invariant.written c.loop-width.invariant.place
+          ∙ pack-next ws vs (bits c.args.buf.now) j t.0 c.requires.1 (omega (arith, length-bits c.args.buf.now, c.requires.0.room));
+    }

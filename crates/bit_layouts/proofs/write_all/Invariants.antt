@@ -1,13 +1,12 @@
-use mathlib.Core.Path.{◌≡◌}
-use mathlib.Core.List.{◌++◌}
-use Prim.Native.Nat.{◌+◌, ◌-◌, ◌≤◌}
-use lib.ListN.{length, take, drop}
+use Rattle.std.proofs.Common.{◌≡◌, ◌++◌, length, take, drop}
 use Rattle.bits.specs.Layout.{pack, sum}
 use Rattle.bits.specs.Bits.{bits}
 use Rattle.bit_layouts.proofs.write_all.Given as goal
 
-abbrev pub invariant-loop-j : goal.invariant-loop-j
-invariant-loop-j l = (l.j ≤ length l.ws) × (l.at ≡ sum (take l.j l.ws)) × (length l.buf ≡ length l.initial.buf) × (bits l.buf ≡ pack (take l.j l.ws) (take l.j l.vs) ++ drop (sum (take l.j l.ws)) (bits l.initial.buf))
-
-abbrev pub decreases-loop-j : goal.decreases-loop-j
-decreases-loop-j l = length l.ws - l.j
+-- `bit_layouts::write_all` meets its contract. Assumes nothing.
+abbrev pub invariant-loop-width : goal.invariant-loop-width
+invariant-loop-width l = let j = length l.yielded in record {
+  place : l.at ≡ sum (take j l.ws);
+  long : length l.buf ≡ length l.initial.buf;
+  written : bits l.buf ≡ pack (take j l.ws) (take j l.vs) ++ drop (sum (take j l.ws)) (bits l.initial.buf);
+}
