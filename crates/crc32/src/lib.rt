@@ -21,10 +21,8 @@ fn feed_byte(r: u32, b: u8) -> u32
     ensures { result ≡ value (feed g32 (bits_of 32 r) (bits_of 8 b)) }
 {
     let mut z = r;
-    let mut i: usize = 0;
-    while i < 8 {
+    for i in 0..8usize {
         z = feed_bit(z, (b as u32 >> (7 - i)) % 2);
-        i += 1;
     }
     z
 }
@@ -66,10 +64,8 @@ fn feed_groups(s: &[u8]) -> u32
     ensures { result ≡ crc32_of (bits (take (length s.now / 8 * 8) s.now)) }
 {
     let mut r: u32 = 0xFFFF_FFFF;
-    let mut i = 0;
-    while 8 <= s.len() - i {
-        r = feed_group(r, &s[i..i + 8]);
-        i += 8;
+    for group in s.chunks_exact(8) {
+        r = feed_group(r, group);
     }
     r
 }
@@ -79,10 +75,9 @@ pub fn crc32(s: &[u8]) -> u32
     ensures { result ≡ crc32_of (bits s.now) }
 {
     let mut r = feed_groups(s);
-    let mut i = s.len() / 8 * 8;
-    while i < s.len() {
-        r = feed_byte(r, s[i]);
-        i += 1;
+    let tail = s.chunks_exact(8).remainder();
+    for byte in tail {
+        r = feed_byte(r, *byte);
     }
     r
 }

@@ -1,8 +1,5 @@
 -- `crc32::feed_byte` meets its contract: the register has taken in the i high bits of the byte. Assumes nothing.
-use mathlib.Core.Path.{◌≡◌, sym, ap, ap₂, ◌∙◌}
-use mathlib.Core.List.{◌++◌}
-use Prim.Native.Nat.{◌+◌, ◌-◌, ◌/◌, ◌%◌, ◌^◌}
-use native.Mathlib.Omega.{arith}
+use Rattle.std.proofs.Common.{◌≡◌, sym, ap, ap₂, ◌∙◌, ◌++◌, ◌+◌, ◌-◌, ◌/◌, ◌%◌, ◌^◌, arith}
 use lib.Pow.{shr-shr}
 use Rattle.gf2.specs.Register.{feed}
 use Rattle.bits.specs.Bits.{value, bits_of}
@@ -13,7 +10,7 @@ use Rattle.crc.proofs.Turn.{feed-nothing, feed-more}
 use Rattle.crc32.proofs.feed_byte.Goals as goal
 
 pub loop-i-init : goal.loop-i-init
-loop-i-init c = (omega arith, sym (feed-nothing g32 32 c.args.r (c.args.b / 2 ^ 8) (omega arith)))
+loop-i-init c = sym (feed-nothing g32 32 c.args.r (c.args.b / 2 ^ 8) (omega arith))
 
 pub loop-i-preserved : goal.loop-i-preserved
 loop-i-preserved c =
@@ -24,18 +21,7 @@ loop-i-preserved c =
     let next : 7 - i ≡ 8 - (i + 1) = omega arith in
     let high : a.b / 2 ^ (8 - i) ≡ v / 2 ^ 1 = ap (λ k. a.b / 2 ^ k) above ∙ sym (shr-shr a.b (7 - i) 1) in
     let passed : bits_of i (a.b / 2 ^ (8 - i)) ++ bits_of 1 (v % 2) ≡ bits_of (i + 1) (a.b / 2 ^ (8 - (i + 1))) =
-    ap₂ (λ h b. bits_of i h ++ b) high (bits_of-low 1 v) ∙ sym (bits_of-add i 1 v) ∙ ap (λ k. bits_of (i + 1) (a.b / 2 ^ k)) next in (
-      omega arith,
-      c.feed_bit-z.ensures
-          ∙ feed-more g32 32 a.r c.loop-i.z (bits_of i (a.b / 2 ^ (8 - i))) (bits_of 1 (v % 2)) c.loop-i.invariant.1
-          ∙ ap (λ x. value (feed g32 (bits_of 32 a.r) x)) passed,
-    )
-
-pub returns : goal.returns
-returns c =
-    let a = c.args in
-    let n : c.loop-i.i ≡ 8 = omega arith in
-    let whole : a.b / 2 ^ (8 - 8) ≡ a.b = omega arith in
-    c.loop-i.invariant.1
-    ∙ ap (λ i. value (feed g32 (bits_of 32 a.r) (bits_of i (a.b / 2 ^ (8 - i))))) n
-    ∙ ap (λ v. value (feed g32 (bits_of 32 a.r) (bits_of 8 v))) whole
+    ap₂ (λ h b. bits_of i h ++ b) high (bits_of-low 1 v) ∙ sym (bits_of-add i 1 v) ∙ ap (λ k. bits_of (i + 1) (a.b / 2 ^ k)) next in
+    c.feed_bit-z.ensures
+    ∙ feed-more g32 32 a.r c.loop-i.z (bits_of i (a.b / 2 ^ (8 - i))) (bits_of 1 (v % 2)) c.loop-i.invariant
+    ∙ ap (λ x. value (feed g32 (bits_of 32 a.r) x)) passed

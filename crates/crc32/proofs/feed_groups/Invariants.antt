@@ -1,19 +1,17 @@
--- What holds before each turn of the loop of `crc32::feed_groups`: the register is the CRC of the whole groups passed.
-use mathlib.Core.Path.{◌≡◌}
-use Prim.Native.Nat.{ℕ, ◌-◌, ◌%◌, ◌≤◌}
-use mathlib.Core.List.{List}
-use lib.ListN.{length, take}
+use Rattle.std.proofs.Common.{◌≡◌, ℕ, List, ◌++◌, ◌%◌, length}
+use Rattle.std.specs.Slice.Iter.{chunks_exact_rest, chunks_exact_size}
 use Rattle.bits.specs.Bits.{bits}
 use Rattle.crc.specs.Crc.{crc32_of}
 use Rattle.crc32.proofs.feed_groups.Given as goal
 
-pub record Passed (s : List ℕ) (r i : ℕ) : Type 0 where
-  pub whole : i % 8 ≡ 0
-  pub inside : i ≤ length s
-  pub register : r ≡ crc32_of (bits (take i s))
+-- the register is the CRC of the whole groups passed, and these stand before the rest of s
+pub record Passed (s : List ℕ) (r : ℕ) (rest : List ℕ) : Type 0 where
+  pub groups : List ℕ
+  pub all : s ≡ groups ++ rest
+  pub whole : length groups % 8 ≡ 0
+  pub register : r ≡ crc32_of (bits groups)
 
-abbrev pub invariant-loop-i : goal.invariant-loop-i
-invariant-loop-i l = Passed l.s l.r l.i
-
-abbrev pub decreases-loop-i : goal.decreases-loop-i
-decreases-loop-i l = length l.s - l.i
+-- What holds before each turn of the loop of `crc32::feed_groups`.
+abbrev pub invariant-loop-group : goal.invariant-loop-group
+invariant-loop-group l =
+    record { eight : chunks_exact_size l.group-iterator ≡ 8; passed : Passed l.s l.r (chunks_exact_rest l.group-iterator) }
