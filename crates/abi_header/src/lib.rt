@@ -11,8 +11,8 @@ fn header_from(v: &[u64]) -> Header
     requires { length v.now ≡ 145 }
     ensures { result ≡ header_from v.now }
 {
-    let first = header_arrays::run119(v, 0, 1);
-    let second = header_arrays::run26(v, 119, 1);
+    let first = header_arrays::run::<119>(v, 0, 1);
+    let second = header_arrays::run::<26>(v, 119, 1);
     let front = header_fields::front_of(&first);
     let extension = header_fields::extension_of(&second);
     Header { front, extension }

@@ -15,6 +15,7 @@ fn read_field(s: &[u8], at: usize, width: usize) -> u64
     let off = at % 8;
     let mut v: u64 = 0;
     let mut i = 0;
+    // A turn takes a part of one byte, of one to eight bits: no iterator hands these out.
     while i < width {
         let k = off + i;
         let n = numbers::smaller(8 - k % 8, width - i);
@@ -53,6 +54,7 @@ pub fn write_field(s: &mut [u8], at: usize, width: usize, v: u64)
     let first = at / 8;
     let off = at % 8;
     let mut i = 0;
+    // As in `read_field`.
     while i < width {
         let k = off + i;
         let n = numbers::smaller(8 - k % 8, width - i);

@@ -24,6 +24,7 @@ pub fn crc10(s: &[u8], at: usize, count: usize) -> u16
     let mut q = at / 8;
     let mut o = at % 8;
     let mut left = count;
+    // A turn takes a part of one byte, of one to eight bits: no iterator hands these out.
     while 0 < left {
         if s.len() <= q {
             return r;

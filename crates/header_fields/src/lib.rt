@@ -10,11 +10,11 @@ use header::{Extension, Front};
 pub fn front_of(v: &[u64; 119]) -> Front
     ensures { result ≡ front_of v.now }
 {
-    let valid = header_arrays::run15(v, 5, 1);
-    let streams = header_arrays::run15(v, 20, 2);
-    let networks = header_arrays::run15(v, 21, 2);
-    let states = header_arrays::run15(v, 50, 1);
-    let slots = header_arrays::run52(v, 67, 1);
+    let valid = header_arrays::run::<15>(v, 5, 1);
+    let streams = header_arrays::run::<15>(v, 20, 2);
+    let networks = header_arrays::run::<15>(v, 21, 2);
+    let states = header_arrays::run::<15>(v, 50, 1);
+    let slots = header_arrays::run::<52>(v, 67, 1);
     Front {
         packet: v[0],
         sync: v[1],
@@ -35,7 +35,7 @@ pub fn front_of(v: &[u64; 119]) -> Front
 pub fn extension_of(v: &[u64; 26]) -> Extension
     ensures { result ≡ extension_of v.now }
 {
-    let ac = header_arrays::run26(v, 0, 1);
+    let ac = header_arrays::run::<26>(v, 0, 1);
     Extension { ac }
 }
 
@@ -43,7 +43,7 @@ pub fn extension_of(v: &[u64; 26]) -> Extension
 pub fn front_fields(front: Front) -> [u64; 119]
     ensures { result ≡ front_fields front }
 {
-    let mut v = header_arrays::zeros119();
+    let mut v = header_arrays::zeros::<119>();
     v[0] = front.packet;
     v[1] = front.sync;
     v[2] = front.change;

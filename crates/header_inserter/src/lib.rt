@@ -17,7 +17,7 @@ fn ac_values(frame: &[u8; 26]) -> [u64; 26]
     ensures { result ≡ unpack ac_widths (bits frame.now) }
 {
     let widths = header_tables::extension_free();
-    let mut values = header_arrays::zeros26();
+    let mut values = header_arrays::zeros::<26>();
     bit_layouts::read_all(frame, &widths, &mut values);
     values
 }

@@ -28,7 +28,7 @@ fn find_front(h: &[u8]) -> FrontFound
 {
     let kinds = header_tables::front_kinds();
     let widths = header_tables::front_widths();
-    let mut v = header_arrays::zeros119();
+    let mut v = header_arrays::zeros::<119>();
     let fixed = segments::read_fields(&h[0..99], &kinds, &widths, &mut v);
     let front = header_fields::front_of(&v);
     FrontFound { fixed, front }
@@ -41,7 +41,7 @@ fn find_extension(h: &[u8]) -> ExtensionFound
 {
     let kinds = header_tables::extension_kinds();
     let widths = header_tables::extension_widths();
-    let mut v = header_arrays::zeros26();
+    let mut v = header_arrays::zeros::<26>();
     let fixed = segments::read_fields(&h[99..184], &kinds, &widths, &mut v);
     let extension = header_fields::extension_of(&v);
     ExtensionFound { fixed, extension }
@@ -58,9 +58,9 @@ fn crc_wrong(h: &[u8]) -> bool
 fn no_header() -> Header
     ensures { result ≡ no_header }
 {
-    let none = header_arrays::zeros119();
+    let none = header_arrays::zeros::<119>();
     let front = header_fields::front_of(&none);
-    let nothing = header_arrays::zeros26();
+    let nothing = header_arrays::zeros::<26>();
     let extension = header_fields::extension_of(&nothing);
     Header { front, extension }
 }

@@ -4,4 +4,4 @@ use Rattle.header_fields.proofs.extension_of.Goals as goal
 
 pub returns : goal.returns
 unfolding extension_of
-returns c = λ i. record { ac = c.run26-ac.ensures i }
+returns c = λ i. record { ac = c.run-ac.ensures i }

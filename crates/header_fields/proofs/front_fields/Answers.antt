@@ -22,7 +22,7 @@ lengths : (c : Start) → Lengths c.args.front
 lengths c = record { valid = search rules; streams = search rules; networks = search rules; states = search rules; slots = search rules }
 
 pub put_values-requires : goal.put_values-requires
-put_values-requires c = simp length-set (omega (arith, lengths (goal.at.put_values-requires c).Start, ap length c.zeros119-v.ensures))
+put_values-requires c = simp length-set (omega (arith, lengths (goal.at.put_values-requires c).Start, ap length c.zeros-v.ensures))
 
 pub put_pairs-requires : goal.put_pairs-requires
 put_pairs-requires c =
@@ -47,7 +47,7 @@ unfolding front_fields
 returns c =
     let f = c.args.front in
     let n = lengths (goal.at.returns c).Start in
-    let z = c.zeros119-v.result in
+    let z = c.zeros-v.result in
     let l : length z ≡ 119 = search rules in
     let v₀ = filled-one f.form (filled-one f.method (filled-one f.change (filled-one f.sync (filled-one f.packet (filled_none z) (omega arith)) (omega arith)) (omega arith)) (omega arith)) (omega arith) in
     let v₁ = filled_row f.valid c.put_values.new.out 15 v₀ c.put_values.ensures n.valid in

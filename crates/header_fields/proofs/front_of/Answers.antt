@@ -14,11 +14,11 @@ returns c =
       change = get_or v 2 0;
       method = get_or v 3 0;
       form = get_or v 4 0;
-      valid = c.run15-valid.ensures i;
-      streams = c.run15-streams.ensures i;
-      networks = c.run15-networks.ensures i;
-      states = c.run15-states.ensures i;
+      valid = c.run-valid.ensures i;
+      streams = c.run-streams.ensures i;
+      networks = c.run-networks.ensures i;
+      states = c.run-states.ensures i;
       carried = get_or v 65 0;
       emergency = get_or v 66 0;
-      slots = c.run52-slots.ensures i;
+      slots = c.run-slots.ensures i;
     }

@@ -12,7 +12,7 @@ use Rattle.header_reader.proofs.find_extension.Goals as goal
 
 pub read_fields-fixed-requires : goal.read_fields-fixed-requires
 read_fields-fixed-requires c =
-    read-room extension_layout _ _ c.extension_kinds-kinds.ensures c.extension_widths-widths.ensures 85 26 _ _ extension-row (simp (length-take, length-drop) (omega (arith, c.requires))) (ap length c.zeros26-v.ensures)
+    read-room extension_layout _ _ c.extension_kinds-kinds.ensures c.extension_widths-widths.ensures 85 26 _ _ extension-row (simp (length-take, length-drop) (omega (arith, c.requires))) (ap length c.zeros-v.ensures)
 
 pub returns : goal.returns
 unfolding extension_in extension_wrong

@@ -12,7 +12,7 @@ use Rattle.header_reader.proofs.find_front.Goals as goal
 
 pub read_fields-fixed-requires : goal.read_fields-fixed-requires
 read_fields-fixed-requires c =
-    read-room front_layout _ _ c.front_kinds-kinds.ensures c.front_widths-widths.ensures 99 119 _ _ front-row (simp (length-take, length-drop) (omega (arith, c.requires))) (ap length c.zeros119-v.ensures)
+    read-room front_layout _ _ c.front_kinds-kinds.ensures c.front_widths-widths.ensures 99 119 _ _ front-row (simp (length-take, length-drop) (omega (arith, c.requires))) (ap length c.zeros-v.ensures)
 
 pub returns : goal.returns
 unfolding front_in slot_bit_wrong

@@ -8,6 +8,6 @@ use Rattle.header_reader.proofs.no_header.Goals as goal
 pub returns : goal.returns
 unfolding no_header
 returns c =
-    let e = c.extension_of-extension.ensures ∙ ap extension_of c.zeros26-nothing.ensures ∙ extension-zeros in
-    let g = c.front_of-front.ensures ∙ ap front_of c.zeros119-none.ensures ∙ front-zeros in
+    let e = c.extension_of-extension.ensures ∙ ap extension_of c.zeros-nothing.ensures ∙ extension-zeros in
+    let g = c.front_of-front.ensures ∙ ap front_of c.zeros-none.ensures ∙ front-zeros in
     λ i. record { front = g i; extension = e i }
