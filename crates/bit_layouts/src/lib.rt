@@ -4,7 +4,9 @@
 ghost use Rattle.std.specs.Prelude.{◌≡◌, ◌++◌, ◌-◌, ◌^◌, eqb, ltb, length, drop};
 ghost use Rattle.bits.specs.Bits.{bits};
 ghost use Rattle.bits.specs.Layout.{pack, unpack, sum, Layout, fitb};
-ghost use Rattle.bits.specs.Segment.{segment, holds};
+ghost use Rattle.bits.specs.Segment.{holds};
+
+use bits::Segment;
 
 // The values of the fields of the given widths, end to end from the first bit on.
 // The widths are a table of the calling program, known when it is written: that they find room is for its
@@ -64,15 +66,13 @@ fn all_ones(w: usize, v: u64) -> bool
     v == numbers::pow2(w) - 1
 }
 
-// A segment of the given kind and width holds v, if that is fixed: kind 0 is a field, 1 is fixed at 1, any other at 0.
-pub fn segment_holds(kind: u8, w: usize, v: u64) -> bool
-    ensures { result ≡ holds (segment kind w) v }
+// The segment holds v, if it is fixed.
+pub fn segment_holds(segment: Segment, v: u64) -> bool
+    ensures { result ≡ holds segment v }
 {
-    if kind == 0 {
-        return true;
+    match segment {
+        Segment::Field(_) => true,
+        Segment::Ones(width) => all_ones(width, v),
+        Segment::Zeros(_) => v == 0,
     }
-    if kind == 1 {
-        return all_ones(w, v);
-    }
-    v == 0
 }

@@ -2,6 +2,6 @@ pub mod Computed
 pub mod Bits
 pub mod Field
 pub mod Layouts
-pub mod Segment
+pub mod Segments
 pub mod Refusal
 pub mod Slices

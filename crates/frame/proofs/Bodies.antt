@@ -13,7 +13,7 @@ use Rattle.bits.specs.Bits.{value}
 use Rattle.bits.specs.Layout.{unpack, sum, Fit, fitb, Layout, layoutb}
 use Rattle.bits.specs.Segment.{widths, free_widths, free, with_fixed, pack_segments, unpack_segments}
 use Rattle.bits.proofs.Layouts.{unpack-pack, length-fit, fitb-fit, fit-fitb, layoutb-layout}
-use Rattle.bits.proofs.Segment.{fit-with_fixed}
+use Rattle.bits.proofs.Segments.{fit-with_fixed}
 use Rattle.bits.specs.Refusal.{test_numbers}
 use Rattle.bits.proofs.Refusal.{refusal-none, none-refusal}
 use Rattle.frame.specs.Identification.{class_of, update_of, is_undefined}

@@ -12,7 +12,7 @@ use Rattle.bits.specs.Layout.{Fit}
 use Rattle.bits.specs.Segment.{pack_segments, unpack_segments, fixed_bits_hold}
 use Rattle.bits.specs.Refusal.{first_refusal, test_numbers, NoneGiven}
 use Rattle.bits.proofs.Bits.{length-bits_of, length-bytes, bits-bytes, value-bits_of-fit, value-zeros}
-use Rattle.bits.proofs.Segment.{length-pack_segments, unpack-pack_segments, fixed-pack_segments}
+use Rattle.bits.proofs.Segments.{length-pack_segments, unpack-pack_segments, fixed-pack_segments}
 use Rattle.bits.proofs.Refusal.{refusal-later, refusal-none, none-refusal}
 use Rattle.gf2.specs.Polynomial.{zeros, add}
 use Rattle.gf2.proofs.Sum.{add-zeros}

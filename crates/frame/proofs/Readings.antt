@@ -14,7 +14,7 @@ use Rattle.bits.specs.Layout.{Fit}
 use Rattle.bits.specs.Segment.{pack_segments}
 use Rattle.bits.specs.Refusal.{first_refusal, test_numbers, NoneGiven}
 use Rattle.bits.proofs.Bits.{value-take-lt}
-use Rattle.bits.proofs.Segment.{pack-unpack_segments, fit-unpack_segments}
+use Rattle.bits.proofs.Segments.{pack-unpack_segments, fit-unpack_segments}
 use Rattle.bits.proofs.Refusal.{refusal-later, refusal-none, none-refusal}
 use Rattle.crc.specs.Crc.{crc10, crc10_of}
 use Rattle.crc.proofs.Crc.{crc10-bits}

@@ -1,6 +1,7 @@
 -- The details, B24 to B111: five bodies of 88 bits (notice 368, schedules 2, 3 and 5). Assumes nothing.
 use Rattle.std.specs.Prelude.{cond, List, [], ◌∷◌, ℕ, ◌+◌, eqb}
-use Rattle.bits.specs.Segment.{Segment, width}
+use Rattle.bits.specs.declared.Segment.{Segment}
+use Rattle.bits.specs.Segment.{width}
 use Rattle.frame.specs.Entry.{Entry, ones, segment_of, segments_of, indices_of, time, page, areas, total, item, number, kind, south, latitude, west, longitude, depth, occurred, broadcaster, region}
 use Rattle.frame.specs.declared.Class.{Class}
 use Rattle.frame.specs.declared.Class.TheVariants.{Warning, SafetyInformation, Silent, Undefined}

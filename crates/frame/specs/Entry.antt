@@ -1,6 +1,7 @@
 -- What stands in a body, entry by entry, and the one table of the record's fields there: each with its index in the record and its bits. Assumes nothing.
 use Rattle.std.specs.Prelude.{List, [], ◌∷◌, ℕ}
-use Rattle.bits.specs.Segment.{Segment, field, fixedOnes}
+use Rattle.bits.specs.declared.Segment.{Segment}
+use Rattle.bits.specs.declared.Segment.TheVariants.{Field, Ones}
 
 -- field k of the record in w bits, or w bits that are all 1
 pub data Entry : Type 0 where
@@ -9,8 +10,8 @@ pub data Entry : Type 0 where
 
 -- a row of entries as segments, and the fields' indices in its order
 abbrev pub segment_of : Entry → Segment
-segment_of (held k w) = field w
-segment_of (ones w) = fixedOnes w
+segment_of (held k w) = Field w
+segment_of (ones w) = Ones w
 
 abbrev pub segments_of : List Entry → List Segment
 segments_of [] = []

@@ -8,7 +8,8 @@ use lib.ListN.{length, take, drop, set, replicate, length-append, length-drop}
 use lib.Seq.{take-nil, take-take, drop-drop, length-take-le}
 use Rattle.bits.specs.Bits.{value, bits}
 use Rattle.bits.specs.Layout.{unpack, sum}
-use Rattle.bits.specs.Segment.{fixedOnes, segment, widths, holds, fixed_hold, free}
+use Rattle.bits.specs.declared.Segment.TheVariants.{Ones}
+use Rattle.bits.specs.Segment.{widths, holds, fixed_hold, free}
 use Rattle.bits.proofs.Layouts.{length-unpack}
 use Rattle.frame.specs.Body.{layout, own_update}
 use Rattle.frame.specs.Span.{span_of, between}
@@ -66,14 +67,14 @@ details-front b x p i u d =
     (sym (unpack-front (widths (layout b)) 88 d (omega (arith, layout-sum b))))
 
 pub ones-seen : (b : Body) (d : List Bool) {s : Span} {v w : ℕ} {t u : Bool} → s ≡ span_of b
-    → v ≡ value (take (8 * s.before) d) → t ≡ holds (segment 1 (8 * s.before)) v
-    → w ≡ value (take s.after (drop (88 - s.after) d)) → u ≡ holds (segment 1 s.after) w
+    → v ≡ value (take (8 * s.before) d) → t ≡ holds (Ones (8 * s.before)) v
+    → w ≡ value (take s.after (drop (88 - s.after) d)) → u ≡ holds (Ones s.after) w
     → (t && u) ≡ ones_hold b d
 unfolding ones_hold
 ones-seen b d {s} es ev et ew eu =
-    ap₂ ◌&&◌ (et ∙ ap (holds (fixedOnes (8 * s.before))) ev) (eu ∙ ap (holds (fixedOnes s.after)) ew)
-    ∙ ap (λ (k : Span). holds (fixedOnes (8 * k.before)) (value (take (8 * k.before) d))
-    && holds (fixedOnes k.after) (value (take k.after (drop (88 - k.after) d)))) es
+    ap₂ ◌&&◌ (et ∙ ap (holds (Ones (8 * s.before))) ev) (eu ∙ ap (holds (Ones s.after)) ew)
+    ∙ ap (λ (k : Span). holds (Ones (8 * k.before)) (value (take (8 * k.before) d))
+    && holds (Ones k.after) (value (take k.after (drop (88 - k.after) d)))) es
 
 pub details-read : (b : Body) (x p i u : ℕ) (d : List Bool) {v : List ℕ} {t : Bool} {o : ℕ} {g : Origin} {r : Record} → 88 ≤ length d → t ≡ ones_hold b d → v ≡ fields_read b d
     → o ≡ own_update b u → g ≡ no_origin → r ≡ record_from g (set (set (set (set v 0 x) 1 p) 2 i) 3 o)

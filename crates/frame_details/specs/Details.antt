@@ -3,7 +3,8 @@ use Rattle.std.specs.Prelude.{Bool, ◌&&◌, List, ◌++◌, ℕ, ◌-◌, ◌*
 use Rattle.bits.specs.Bits.{value}
 use Rattle.bits.specs.Field.{put_of}
 use Rattle.bits.specs.Layout.{unpack}
-use Rattle.bits.specs.Segment.{fixedOnes, holds, unpack_segments, fixed_bits_hold}
+use Rattle.bits.specs.declared.Segment.TheVariants.{Ones}
+use Rattle.bits.specs.Segment.{holds, unpack_segments, fixed_bits_hold}
 use Rattle.frame.specs.Body.{layout}
 use Rattle.frame.specs.Span.{span_of, between}
 use Rattle.frame.specs.Fields.{field_count, field_widths, record_of}
@@ -20,8 +21,8 @@ fields_read b d =
 -- the bits fixed at 1 are all 1: those before the fields and those after them
 unfoldable pub ones_hold : Body → List Bool → Bool
 ones_hold b d =
-    holds (fixedOnes (8 * (span_of b).before)) (value (take (8 * (span_of b).before) d))
-    && holds (fixedOnes (span_of b).after) (value (take (span_of b).after (drop (88 - (span_of b).after) d)))
+    holds (Ones (8 * (span_of b).before)) (value (take (8 * (span_of b).before) d))
+    && holds (Ones (span_of b).after) (value (take (span_of b).after (drop (88 - (span_of b).after) d)))
 
 -- bytes with the bits fixed at 1 put into them
 unfoldable pub ones_written : Body → List ℕ → List ℕ

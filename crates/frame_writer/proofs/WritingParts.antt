@@ -7,7 +7,7 @@ use native.Mathlib.Omega.{arith}
 use lib.ListN.{length, drop}
 use Rattle.bits.specs.Layout.{pack, sum, Layout, layoutb}
 use Rattle.bits.proofs.Layouts.{length-pack, layoutb-layout}
-use Rattle.bits.proofs.Segment.{length-pack_segments}
+use Rattle.bits.proofs.Segments.{length-pack_segments}
 use Rattle.frame.specs.Body.{layout}
 use Rattle.frame.specs.Fields.{body_values, record_body}
 use Rattle.frame_writer.specs.WriterParts.{front_widths, front_values, front_bits, detail_bits}

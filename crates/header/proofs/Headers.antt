@@ -9,11 +9,12 @@ use lib.Seq.{length-take-le}
 use borrow.Author.Tests.{eq-eqb, eqb-true, not-false}
 use Rattle.bits.specs.Bits.{bits, bytes, Bytes}
 use Rattle.bits.specs.Layout.{sum, Fit, fitb}
-use Rattle.bits.specs.Segment.{Segment, widths, free_widths, pack_segments, unpack_segments, fixed_bits_hold}
+use Rattle.bits.specs.declared.Segment.{Segment}
+use Rattle.bits.specs.Segment.{widths, free_widths, pack_segments, unpack_segments, fixed_bits_hold}
 use Rattle.bits.specs.Refusal.{first_refusal}
 use Rattle.bits.proofs.Bits.{length-bytes, bits-bytes}
 use Rattle.bits.proofs.Layouts.{length-fit, fitb-fit, fit-fitb}
-use Rattle.bits.proofs.Segment.{length-pack_segments, unpack-bytes-pack_segments, bytes-pack-unpack_segments, fixed-pack_segments, fit-unpack_segments}
+use Rattle.bits.proofs.Segments.{length-pack_segments, unpack-bytes-pack_segments, bytes-pack-unpack_segments, fixed-pack_segments, fit-unpack_segments}
 use Rattle.bits.proofs.Refusal.{refusal-none, none-refusal, neither}
 use Rattle.crc.specs.Crc.{crc32_of}
 use Rattle.header.specs.Layout.{front_layout, extension_layout}

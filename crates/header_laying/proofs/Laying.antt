@@ -8,9 +8,11 @@ use lib.ListN.{length, take, drop, replicate, length-append, length-drop, take-a
 use lib.Seq.{take_at, drop_at, take_all, length-take-le}
 use Rattle.bits.specs.Bits.{bits, bytes, Bytes}
 use Rattle.bits.specs.Layout.{sum, unpack}
-use Rattle.bits.specs.Segment.{Segment, field, fixedOnes, widths, unpack_segments, fixed_hold, fixed_bits_hold}
+use Rattle.bits.specs.declared.Segment.{Segment}
+use Rattle.bits.specs.declared.Segment.TheVariants.{Field, Ones}
+use Rattle.bits.specs.Segment.{widths, unpack_segments, fixed_hold, fixed_bits_hold}
 use Rattle.bits.proofs.Bits.{length-bits, length-bytes, bits-bytes, bytes-bits, bits-take, bits-drop}
-use Rattle.bits.proofs.Segment.{fixed_bits_hold-append}
+use Rattle.bits.proofs.Segments.{fixed_bits_hold-append}
 use Rattle.crc.specs.Crc.{crc32_of}
 use Rattle.frame.proofs.Parts.{inner-part}
 use Rattle.header.specs.Layout.{front_layout, extension_layout}
@@ -26,10 +28,10 @@ use Rattle.header.proofs.Headers.{Accepted}
 -- ---- the extension: the 204 AC bits, and 476 bits fixed at 1
 
 ac_layout : List Segment
-ac_layout = replicate 25 (field 8) ++ field 4 ∷ []
+ac_layout = replicate 25 (Field 8) ++ Field 4 ∷ []
 
 ones_layout : List Segment
-ones_layout = fixedOnes 4 ∷ replicate 59 (fixedOnes 8)
+ones_layout = Ones 4 ∷ replicate 59 (Ones 8)
 
 extension-parts : extension_layout ≡ ac_layout ++ ones_layout
 unfolding extension_layout ac_layout ones_layout

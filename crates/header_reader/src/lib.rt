@@ -26,10 +26,9 @@ fn find_front(h: &[u8]) -> FrontFound
     requires { length h.now ≡ 188 }
     ensures { result ≡ front_found h.now }
 {
-    let kinds = header_tables::front_kinds();
-    let widths = header_tables::front_widths();
+    let layout = header_tables::front_layout();
     let mut v = header_arrays::zeros::<119>();
-    let fixed = segments::read_fields(&h[0..99], &kinds, &widths, &mut v);
+    let fixed = segments::read_fields(&h[0..99], &layout, &mut v);
     let front = header_fields::front_of(&v);
     FrontFound { fixed, front }
 }
@@ -39,10 +38,9 @@ fn find_extension(h: &[u8]) -> ExtensionFound
     requires { length h.now ≡ 188 }
     ensures { result ≡ extension_found h.now }
 {
-    let kinds = header_tables::extension_kinds();
-    let widths = header_tables::extension_widths();
+    let layout = header_tables::extension_layout();
     let mut v = header_arrays::zeros::<26>();
-    let fixed = segments::read_fields(&h[99..184], &kinds, &widths, &mut v);
+    let fixed = segments::read_fields(&h[99..184], &layout, &mut v);
     let extension = header_fields::extension_of(&v);
     ExtensionFound { fixed, extension }
 }

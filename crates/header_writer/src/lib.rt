@@ -16,9 +16,8 @@ fn put_front(buffer: &mut [u8], front: Front)
     ensures { buffer.new ≡ bytes 99 (pack_segments front_layout (front_fields front)) ++ drop 99 buffer.old }
 {
     let v = header_fields::front_fields(front);
-    let kinds = header_tables::front_kinds();
-    let widths = header_tables::front_widths();
-    segments::write_fields(buffer, &kinds, &widths, &v);
+    let layout = header_tables::front_layout();
+    segments::write_fields(buffer, &layout, &v);
 }
 
 // Bytes 99 to 183, of the part that starts at byte 99.
@@ -27,9 +26,8 @@ fn put_extension(part: &mut [u8], extension: Extension)
     ensures { part.new ≡ bytes 85 (pack_segments extension_layout (extension_fields extension)) ++ drop 85 part.old }
 {
     let ac = extension.ac;
-    let kinds = header_tables::extension_kinds();
-    let widths = header_tables::extension_widths();
-    segments::write_fields(part, &kinds, &widths, &ac);
+    let layout = header_tables::extension_layout();
+    segments::write_fields(part, &layout, &ac);
 }
 
 // The CRC in bytes 184 to 187. It requires a whole header: its callers have tested the length, and there is no refusal to answer with here.

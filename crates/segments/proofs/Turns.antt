@@ -1,36 +1,54 @@
 -- One turn of the loops over a row of segments. Assumes nothing.
 use mathlib.Core.Path.{◌≡◌, refl, sym, ap, ap₂, subst, ◌∙◌}
-use mathlib.Core.Bool.{Bool, true, false, cond, ◌&&◌, false≢true, and_assoc, and-true}
+use mathlib.Core.Bool.{Bool, ◌&&◌, and_assoc, and-true}
 use mathlib.Core.List.{List, [], ◌∷◌, ◌++◌, append-nil, append_assoc}
 use Prim.Native.Nat.{ℕ, suc, ◌+◌, ◌-◌, ◌*◌, ◌^◌, ◌<◌, ◌≤◌}
 use native.Mathlib.Numerals.{add-one}
 use native.Mathlib.Omega.{arith}
-use lib.Dec.{eqb}
+use Rattle.std.proofs.lemmas.List.{get_or-drop}
 use lib.ListN.{length, get_or, take, drop, set, length-set, length-append}
 use lib.Seq.{paste, length-take-le, take_at, drop-cons, drop-length, take-suc-set, take_all, drop-drop, append_snoc}
-use borrow.Author.Tests.{eq-eqb}
 use Rattle.bits.specs.Bits.{value, bits_of, bits}
 use Rattle.bits.specs.Field.{put_of}
-use Rattle.bits.specs.Layout.{pack, unpack}
-use Rattle.bits.specs.Segment.{Segment, field, fixedOnes, fixedZeros, segment, segments, widths, free_widths, holds, fixed_hold, free, with_fixed, pack_segments, unpack_segments, fixed_bits_hold}
-use Rattle.bits.proofs.Segment.{length-segments, get_or-segments}
+use Rattle.bits.specs.Layout.{pack, unpack, sum}
+use Rattle.bits.specs.declared.Segment.{Segment}
+use Rattle.bits.specs.declared.Segment.TheVariants.{Field, Ones, Zeros}
+use Rattle.bits.specs.Segment.{width, widths, free_widths, holds, fixed_hold, free, with_fixed, pack_segments, unpack_segments, fixed_bits_hold}
+use Rattle.bits.proofs.Segments.{length-widths, widths-drop}
 use Rattle.bits.proofs.Bits.{length-bits_of, length-bits}
 use Rattle.bits.proofs.Field.{within-room, bits-put_of}
-use Rattle.bits.proofs.Layouts.{paste-after}
-use Rattle.segments.specs.Step.{stored, next_place, segment_value}
+use Rattle.bits.proofs.Layouts.{paste-after, sum-take, sum-next}
+use Rattle.segments.specs.Step.{IfField, stored, next_place, segment_value}
 
--- the row from segment j on
-pub rest-segments : (ks ws : List ℕ) (j : ℕ) → length ks ≡ length ws → j < length ws
-    → drop j (segments ks ws) ≡ segment (get_or ks j 0) (get_or ws j 0) ∷ drop (j + 1) (segments ks ws)
-rest-segments ks ws j e h =
-    let l : j < length (segments ks ws) = omega (arith, length-segments ks ws) in
-    rw (add-one, drop-cons (segments ks ws) j (field 0) l, get_or-segments ks ws j (omega arith) h)
+-- segment j of a row is g: what is left before and after it, and its width among the widths
+pub record At (l : List Segment) (j : ℕ) (g : Segment) : Type 0 where
+  pub row : drop j l ≡ g ∷ drop (j + 1) l
+  pub inside : j < length (widths l)
+  pub wide : get_or (widths l) j 0 ≡ width g
+
+pub segment_at : (l : List Segment) (j : ℕ) (d : Segment) → j < length l → At l j (get_or l j d)
+unfolding widths
+segment_at l j d h =
+    let g = get_or l j d in
+    let e : drop j l ≡ g ∷ drop (j + 1) l = rw add-one (drop-cons l j d h) in
+    let w : drop j (widths l) ≡ width g ∷ widths (drop (j + 1) l) = sym (widths-drop l j) ∙ ap widths e in
+    let n : j + 0 ≡ j = omega arith in
+    record {
+      row = e;
+      inside = omega (arith, length-widths l);
+      wide = ap (λ k. get_or (widths l) k 0) (sym n) ∙ sym (get_or-drop j (widths l) 0 0) ∙ ap (λ x. get_or x 0 0) w;
+    }
+
+-- the place in bits of the next segment, and that this one finds room
+pub place_next : {l : List Segment} {j : ℕ} {g : Segment} (at : ℕ) → At l j g → at ≡ sum (take j (widths l)) → at + width g ≡ sum (take (j + 1) (widths l))
+place_next {l} {j} at a e = ap₂ (λ m w. m + w) e (sym a.wide) ∙ sym (sum-take (widths l) j a.inside)
+
+pub place_room : {l : List Segment} {j : ℕ} {g : Segment} (at : ℕ) → At l j g → at ≡ sum (take j (widths l)) → at + width g ≤ sum (widths l)
+place_room {l} {j} at a e = omega (arith, e, a.wide, sum-next (widths l) j a.inside)
 
 -- nothing is left after the last
-pub no-segments : (ks ws : List ℕ) (j : ℕ) → length ks ≡ length ws → j ≡ length ws → drop j (segments ks ws) ≡ []
-no-segments ks ws j e h =
-    let n : j ≡ length (segments ks ws) = omega (arith, length-segments ks ws) in
-    ap (λ k. drop k (segments ks ws)) n ∙ drop-length (segments ks ws)
+no_segments : (l : List Segment) (j : ℕ) → j ≡ length l → drop j l ≡ []
+no_segments l j h = ap (λ k. drop k l) h ∙ drop-length l
 
 -- ---- reading
 
@@ -39,99 +57,77 @@ pub record ReadSoFar (vs : List ℕ) (i : ℕ) (out : List ℕ) (l : List Segmen
   pub room : i + length (free_widths l) ≡ length out
   pub values : vs ≡ take i out ++ unpack_segments l bs
 
-pub read_next : (vs : List ℕ) (k w i : ℕ) (out : List ℕ) (l : List Segment) (bs : List Bool) → ReadSoFar vs i out (segment k w ∷ l) bs
-    → ReadSoFar vs (next_place k i) (stored k (value (take w bs)) i out) l (drop w bs)
+read_next : (vs : List ℕ) (g : Segment) (i : ℕ) (out : List ℕ) (l : List Segment) (bs : List Bool) → ReadSoFar vs i out (g ∷ l) bs
+    → ReadSoFar vs (next_place g i) (stored g (value (take (width g) bs)) i out) l (drop (width g) bs)
 unfolding free_widths free widths unpack
-read_next vs k w i out l bs = go (eqb k 0) (eqb k 1)
-  where
-    go : (s t : Bool) → ReadSoFar vs i out (cond s (field w) (cond t (fixedOnes w) (fixedZeros w)) ∷ l) bs
-        → ReadSoFar vs (cond s (i + 1) i) (cond s (set out i (value (take w bs))) out) l (drop w bs)
-    go true t r =
-        let h : i < length out = omega (arith, r.room) in
-        let n : i + 1 ≡ suc i = add-one i in
-        record {
-          room = omega (arith, r.room, length-set out i (value (take w bs)));
-          values =
-              r.values ∙ sym (append_snoc (take i out) (value (take w bs)) (unpack_segments l (drop w bs)))
-              ∙ ap (◌++ unpack_segments l (drop w bs)) (sym (ap (λ k. take k (set out i (value (take w bs)))) n ∙ take-suc-set out i (value (take w bs)) h));
-        }
-    go false true r = record { room = r.room; values = r.values }
-    go false false r = record { room = r.room; values = r.values }
+read_next vs (Field w) i out l bs r =
+    let h : i < length out = omega (arith, r.room) in
+    let n : i + 1 ≡ suc i = add-one i in
+    record {
+      room = omega (arith, r.room, length-set out i (value (take w bs)));
+      values =
+          r.values ∙ sym (append_snoc (take i out) (value (take w bs)) (unpack_segments l (drop w bs)))
+          ∙ ap (◌++ unpack_segments l (drop w bs)) (sym (ap (λ k. take k (set out i (value (take w bs)))) n ∙ take-suc-set out i (value (take w bs)) h));
+    }
+read_next vs (Ones w) i out l bs r = record { room = r.room; values = r.values }
+read_next vs (Zeros w) i out l bs r = record { room = r.room; values = r.values }
 
 -- there is room for a field's value
-room_at : (vs : List ℕ) (k w i : ℕ) (out : List ℕ) (l : List Segment) (bs : List Bool) → ReadSoFar vs i out (segment k w ∷ l) bs
-    → (i ≤ length out) × (k ≡ 0 → i < length out)
+room_at : (vs : List ℕ) (g : Segment) (i : ℕ) (out : List ℕ) (l : List Segment) (bs : List Bool) → ReadSoFar vs i out (g ∷ l) bs
+    → (i ≤ length out) × IfField g (i < length out)
 unfolding free_widths
-room_at vs k w i out l bs r = (omega (arith, r.room), λ e. go (eqb k 0) (eqb k 1) (eq-eqb k 0 e) r)
-  where
-    go : (s t : Bool) → s ≡ true → ReadSoFar vs i out (cond s (field w) (cond t (fixedOnes w) (fixedZeros w)) ∷ l) bs → i < length out
-    go true t e q = omega (arith, q.room)
-    go false t e q = absurd (false≢true e)
+room_at vs (Field w) i out l bs r = (omega (arith, r.room), omega (arith, r.room))
+room_at vs (Ones w) i out l bs r = (omega (arith, r.room), tt)
+room_at vs (Zeros w) i out l bs r = (omega (arith, r.room), tt)
 
-pub read-room : (ks ws vs out : List ℕ) (bs : List Bool) (i j : ℕ) → length ks ≡ length ws → j < length ws
-    → ReadSoFar vs i out (drop j (segments ks ws)) bs → (i ≤ length out) × (get_or ks j 0 ≡ 0 → i < length out)
-read-room ks ws vs out bs i j e h r =
-    room_at vs (get_or ks j 0) (get_or ws j 0) i out (drop (j + 1) (segments ks ws)) bs
-    (subst (λ (y : List Segment). ReadSoFar vs i out y bs) (rest-segments ks ws j e h) r)
+pub read-room : {l : List Segment} {j : ℕ} {g : Segment} → At l j g → (vs out : List ℕ) (bs : List Bool) (i : ℕ)
+    → ReadSoFar vs i out (drop j l) bs → (i ≤ length out) × IfField g (i < length out)
+read-room {l} {j} {g} a vs out bs i r =
+    room_at vs g i out (drop (j + 1) l) bs (subst (λ (y : List Segment). ReadSoFar vs i out y bs) a.row r)
 
 -- the loop's turn
-pub read-turn : (ks ws vs out out' : List ℕ) (bs : List Bool) (at i i' j : ℕ) → length ks ≡ length ws → j < length ws
-    → i' ≡ next_place (get_or ks j 0) i → out' ≡ stored (get_or ks j 0) (value (take (get_or ws j 0) (drop at bs))) i out
-    → ReadSoFar vs i out (drop j (segments ks ws)) (drop at bs)
-    → ReadSoFar vs i' out' (drop (j + 1) (segments ks ws)) (drop (at + get_or ws j 0) bs)
-read-turn ks ws vs out out' bs at i i' j e h p q r =
-    let k = get_or ks j 0 in
-    let w = get_or ws j 0 in
-    let l = drop (j + 1) (segments ks ws) in
-    let x = read_next vs k w i out l (drop at bs) (subst (λ (y : List Segment). ReadSoFar vs i out y (drop at bs)) (rest-segments ks ws j e h) r) in
-    let y = subst (λ (b : List Bool). ReadSoFar vs (next_place k i) (stored k (value (take w (drop at bs))) i out) l b) (drop-drop w at bs) x in
-    subst (λ (m : ℕ). ReadSoFar vs m out' l (drop (at + w) bs)) (sym p) (subst (λ (o : List ℕ). ReadSoFar vs (next_place k i) o l (drop (at + w) bs)) (sym q) y)
+pub read-turn : {l : List Segment} {j : ℕ} {g : Segment} → At l j g → (vs out out' : List ℕ) (bs : List Bool) (at i i' : ℕ)
+    → i' ≡ next_place g i → out' ≡ stored g (value (take (width g) (drop at bs))) i out
+    → ReadSoFar vs i out (drop j l) (drop at bs) → ReadSoFar vs i' out' (drop (j + 1) l) (drop (at + width g) bs)
+read-turn {l} {j} {g} a vs out out' bs at i i' p q r =
+    let m = drop (j + 1) l in
+    let x = read_next vs g i out m (drop at bs) (subst (λ (y : List Segment). ReadSoFar vs i out y (drop at bs)) a.row r) in
+    let y = subst (λ (b : List Bool). ReadSoFar vs (next_place g i) (stored g (value (take (width g) (drop at bs))) i out) m b) (drop-drop (width g) at bs) x in
+    subst (λ (n : ℕ). ReadSoFar vs n out' m (drop (at + width g) bs)) (sym p)
+    (subst (λ (o : List ℕ). ReadSoFar vs (next_place g i) o m (drop (at + width g) bs)) (sym q) y)
 
 -- all of it is read
-pub read-end : (ks ws vs out : List ℕ) (bs : List Bool) (i j : ℕ) → length ks ≡ length ws → j ≡ length ws → ReadSoFar vs i out (drop j (segments ks ws)) bs → out ≡ vs
+pub read-end : (l : List Segment) (vs out : List ℕ) (bs : List Bool) (i j : ℕ) → j ≡ length l → ReadSoFar vs i out (drop j l) bs → out ≡ vs
 unfolding free_widths free
-read-end ks ws vs out bs i j e h r =
-    let q = subst (λ (y : List Segment). ReadSoFar vs i out y bs) (no-segments ks ws j e h) r in
+read-end l vs out bs i j h r =
+    let q = subst (λ (y : List Segment). ReadSoFar vs i out y bs) (no_segments l j h) r in
     sym (q.values ∙ append-nil (take i out) ∙ take_all i out (omega (arith, q.room)))
 
 -- ---- the fixed bits
 
-holds-head : (k w : ℕ) (l : List Segment) (bs : List Bool)
-    → fixed_bits_hold (segment k w ∷ l) bs ≡ (holds (segment k w) (value (take w bs)) && fixed_bits_hold l (drop w bs))
+holds-head : (g : Segment) (l : List Segment) (bs : List Bool)
+    → fixed_bits_hold (g ∷ l) bs ≡ (holds g (value (take (width g) bs)) && fixed_bits_hold l (drop (width g) bs))
 unfolding fixed_hold widths unpack
-holds-head k w l bs = go (eqb k 0) (eqb k 1)
-  where
-    go : (s t : Bool) → let g = cond s (field w) (cond t (fixedOnes w) (fixedZeros w)) in fixed_bits_hold (g ∷ l) bs ≡ (holds g (value (take w bs)) && fixed_bits_hold l (drop w bs))
-    go true t = refl
-    go false true = refl
-    go false false = refl
+holds-head g l bs = refl
 
--- the loop's turn, when the next segment's test comes to b
-holds-turn : (ks ws : List ℕ) (bs : List Bool) (at j : ℕ) (b : Bool) → length ks ≡ length ws → j < length ws
-    → holds (segment (get_or ks j 0) (get_or ws j 0)) (value (take (get_or ws j 0) (drop at bs))) ≡ b
-    → fixed_bits_hold (drop j (segments ks ws)) (drop at bs) ≡ (b && fixed_bits_hold (drop (j + 1) (segments ks ws)) (drop (at + get_or ws j 0) bs))
-holds-turn ks ws bs at j b e h t =
-    let l = drop (j + 1) (segments ks ws) in
-    ap (λ (y : List Segment). fixed_bits_hold y (drop at bs)) (rest-segments ks ws j e h)
-    ∙ holds-head (get_or ks j 0) (get_or ws j 0) l (drop at bs)
-    ∙ ap₂ (λ (x : Bool) (y : List Bool). x && fixed_bits_hold l y) t (drop-drop (get_or ws j 0) at bs)
+-- the loop's turn, beside what the segments before came to
+pub fixed-turn : {l : List Segment} {j : ℕ} {g : Segment} → At l j g → (bs : List Bool) (at : ℕ) (whole fixed fixed' t : Bool)
+    → t ≡ holds g (value (take (width g) (drop at bs))) → fixed' ≡ (fixed && t)
+    → whole ≡ (fixed && fixed_bits_hold (drop j l) (drop at bs))
+    → whole ≡ (fixed' && fixed_bits_hold (drop (j + 1) l) (drop (at + width g) bs))
+fixed-turn {l} {j} {g} a bs at whole fixed fixed' t p q r =
+    let m = drop (j + 1) l in
+    let rest = fixed_bits_hold m (drop (at + width g) bs) in
+    let here : fixed_bits_hold (drop j l) (drop at bs) ≡ (t && rest) =
+    ap (λ (y : List Segment). fixed_bits_hold y (drop at bs)) a.row ∙ holds-head g m (drop at bs)
+    ∙ ap₂ (λ (x : Bool) (y : List Bool). x && fixed_bits_hold m y) (sym p) (drop-drop (width g) at bs) in
+    r ∙ ap (fixed &&◌) here ∙ sym (and_assoc fixed t rest) ∙ ap (◌&& rest) (sym q)
 
--- the same beside what the segments before came to
-pub fixed-turn : (ks ws : List ℕ) (bs : List Bool) (at j : ℕ) (whole fixed fixed' t : Bool) → length ks ≡ length ws → j < length ws
-    → t ≡ holds (segment (get_or ks j 0) (get_or ws j 0)) (value (take (get_or ws j 0) (drop at bs))) → fixed' ≡ (fixed && t)
-    → whole ≡ (fixed && fixed_bits_hold (drop j (segments ks ws)) (drop at bs))
-    → whole ≡ (fixed' && fixed_bits_hold (drop (j + 1) (segments ks ws)) (drop (at + get_or ws j 0) bs))
-fixed-turn ks ws bs at j whole fixed fixed' t e h p q r =
-    let rest = fixed_bits_hold (drop (j + 1) (segments ks ws)) (drop (at + get_or ws j 0) bs) in
-    r ∙ ap (fixed &&◌) (holds-turn ks ws bs at j t e h (sym p)) ∙ sym (and_assoc fixed t rest) ∙ ap (◌&& rest) (sym q)
-
-holds-end : (ks ws : List ℕ) (bs : List Bool) (j : ℕ) → length ks ≡ length ws → j ≡ length ws → fixed_bits_hold (drop j (segments ks ws)) bs ≡ true
+pub fixed-end : (l : List Segment) (bs : List Bool) (j : ℕ) (whole fixed : Bool) → j ≡ length l
+    → whole ≡ (fixed && fixed_bits_hold (drop j l) bs) → fixed ≡ whole
 unfolding fixed_hold widths unpack
-holds-end ks ws bs j e h = ap (λ (y : List Segment). fixed_bits_hold y bs) (no-segments ks ws j e h)
-
-pub fixed-end : (ks ws : List ℕ) (bs : List Bool) (j : ℕ) (whole fixed : Bool) → length ks ≡ length ws → j ≡ length ws
-    → whole ≡ (fixed && fixed_bits_hold (drop j (segments ks ws)) bs) → fixed ≡ whole
-fixed-end ks ws bs j whole fixed e h r = sym (r ∙ ap (fixed &&◌) (holds-end ks ws bs j e h) ∙ and-true fixed)
+fixed-end l bs j whole fixed h r =
+    sym (r ∙ ap (fixed &&◌) (ap (λ (y : List Segment). fixed_bits_hold y bs) (no_segments l j h)) ∙ and-true fixed)
 
 -- ---- writing
 
@@ -140,57 +136,50 @@ pub record WrittenSoFar (whole sofar : List Bool) (vs : List ℕ) (i : ℕ) (l :
   pub count : i + length (free_widths l) ≡ length vs
   pub row : whole ≡ sofar ++ pack_segments l (drop i vs)
 
-room-left : (whole sofar : List Bool) (vs : List ℕ) (k w i : ℕ) (l : List Segment) → WrittenSoFar whole sofar vs i (segment k w ∷ l)
-    → (i ≤ length vs) × (k ≡ 0 → i < length vs)
+room_left : (whole sofar : List Bool) (vs : List ℕ) (g : Segment) (i : ℕ) (l : List Segment) → WrittenSoFar whole sofar vs i (g ∷ l)
+    → (i ≤ length vs) × IfField g (i < length vs)
 unfolding free_widths
-room-left whole sofar vs k w i l r = (omega (arith, r.count), λ e. go (eqb k 0) (eqb k 1) (eq-eqb k 0 e) r)
-  where
-    go : (s t : Bool) → s ≡ true → WrittenSoFar whole sofar vs i (cond s (field w) (cond t (fixedOnes w) (fixedZeros w)) ∷ l) → i < length vs
-    go true t e q = omega (arith, q.count)
-    go false t e q = absurd (false≢true e)
+room_left whole sofar vs (Field w) i l r = (omega (arith, r.count), omega (arith, r.count))
+room_left whole sofar vs (Ones w) i l r = (omega (arith, r.count), tt)
+room_left whole sofar vs (Zeros w) i l r = (omega (arith, r.count), tt)
 
-pub write-room : (ks ws vs : List ℕ) (whole sofar : List Bool) (i j : ℕ) → length ks ≡ length ws → j < length ws
-    → WrittenSoFar whole sofar vs i (drop j (segments ks ws)) → (i ≤ length vs) × (get_or ks j 0 ≡ 0 → i < length vs)
-write-room ks ws vs whole sofar i j e h r =
-    room-left whole sofar vs (get_or ks j 0) (get_or ws j 0) i (drop (j + 1) (segments ks ws))
-    (subst (λ (y : List Segment). WrittenSoFar whole sofar vs i y) (rest-segments ks ws j e h) r)
+pub write-room : {l : List Segment} {j : ℕ} {g : Segment} → At l j g → (whole sofar : List Bool) (vs : List ℕ) (i : ℕ)
+    → WrittenSoFar whole sofar vs i (drop j l) → (i ≤ length vs) × IfField g (i < length vs)
+write-room {l} {j} {g} a whole sofar vs i r =
+    room_left whole sofar vs g i (drop (j + 1) l) (subst (λ (y : List Segment). WrittenSoFar whole sofar vs i y) a.row r)
 
-write-next : (whole sofar : List Bool) (vs : List ℕ) (k w i : ℕ) (l : List Segment) → WrittenSoFar whole sofar vs i (segment k w ∷ l)
-    → WrittenSoFar whole (sofar ++ bits_of w (segment_value k w i vs)) vs (next_place k i) l
+write_next : (whole sofar : List Bool) (vs : List ℕ) (g : Segment) (i : ℕ) (l : List Segment) → WrittenSoFar whole sofar vs i (g ∷ l)
+    → WrittenSoFar whole (sofar ++ bits_of (width g) (segment_value g i vs)) vs (next_place g i) l
 unfolding free_widths with_fixed widths pack
-write-next whole sofar vs k w i l = go (eqb k 0) (eqb k 1)
-  where
-    go : (s t : Bool) → WrittenSoFar whole sofar vs i (cond s (field w) (cond t (fixedOnes w) (fixedZeros w)) ∷ l)
-        → WrittenSoFar whole (sofar ++ bits_of w (cond s (get_or vs i 0) (cond t (2 ^ w - 1) 0))) vs (cond s (i + 1) i) l
-    go true t r =
-        let n : i + 1 ≡ suc i = add-one i in
-        record {
-          count = omega (arith, r.count);
-          row =
-              r.row ∙ ap (λ (x : List ℕ). sofar ++ pack_segments (field w ∷ l) x) (drop-cons vs i 0 (omega (arith, r.count)))
-              ∙ sym (append_assoc sofar (bits_of w (get_or vs i 0)) (pack_segments l (drop (suc i) vs)))
-              ∙ ap (λ (m : ℕ). (sofar ++ bits_of w (get_or vs i 0)) ++ pack_segments l (drop m vs)) (sym n);
-        }
-    go false true r = record { count = r.count; row = r.row ∙ sym (append_assoc sofar (bits_of w (2 ^ w - 1)) (pack_segments l (drop i vs))) }
-    go false false r = record { count = r.count; row = r.row ∙ sym (append_assoc sofar (bits_of w 0) (pack_segments l (drop i vs))) }
+write_next whole sofar vs (Field w) i l r =
+    let n : i + 1 ≡ suc i = add-one i in
+    record {
+      count = omega (arith, r.count);
+      row =
+          r.row ∙ ap (λ (x : List ℕ). sofar ++ pack_segments (Field w ∷ l) x) (drop-cons vs i 0 (omega (arith, r.count)))
+          ∙ sym (append_assoc sofar (bits_of w (get_or vs i 0)) (pack_segments l (drop (suc i) vs)))
+          ∙ ap (λ (m : ℕ). (sofar ++ bits_of w (get_or vs i 0)) ++ pack_segments l (drop m vs)) (sym n);
+    }
+write_next whole sofar vs (Ones w) i l r =
+    record { count = r.count; row = r.row ∙ sym (append_assoc sofar (bits_of w (2 ^ w - 1)) (pack_segments l (drop i vs))) }
+write_next whole sofar vs (Zeros w) i l r =
+    record { count = r.count; row = r.row ∙ sym (append_assoc sofar (bits_of w 0) (pack_segments l (drop i vs))) }
 
 -- the loop's turn
-pub write-turn : (ks ws vs : List ℕ) (whole sofar sofar' : List Bool) (v i i' j : ℕ) → length ks ≡ length ws → j < length ws
-    → v ≡ segment_value (get_or ks j 0) (get_or ws j 0) i vs → i' ≡ next_place (get_or ks j 0) i → sofar ++ bits_of (get_or ws j 0) v ≡ sofar'
-    → WrittenSoFar whole sofar vs i (drop j (segments ks ws)) → WrittenSoFar whole sofar' vs i' (drop (j + 1) (segments ks ws))
-write-turn ks ws vs whole sofar sofar' v i i' j e h p q z r =
-    let k = get_or ks j 0 in
-    let w = get_or ws j 0 in
-    let l = drop (j + 1) (segments ks ws) in
-    let x = write-next whole sofar vs k w i l (subst (λ (y : List Segment). WrittenSoFar whole sofar vs i y) (rest-segments ks ws j e h) r) in
-    let y = subst (λ (u : ℕ). WrittenSoFar whole (sofar ++ bits_of w u) vs (next_place k i) l) (sym p) x in
-    subst (λ (m : ℕ). WrittenSoFar whole sofar' vs m l) (sym q) (subst (λ (b : List Bool). WrittenSoFar whole b vs (next_place k i) l) z y)
+pub write-turn : {l : List Segment} {j : ℕ} {g : Segment} → At l j g → (whole sofar sofar' : List Bool) (vs : List ℕ) (v i i' : ℕ)
+    → v ≡ segment_value g i vs → i' ≡ next_place g i → sofar ++ bits_of (width g) v ≡ sofar'
+    → WrittenSoFar whole sofar vs i (drop j l) → WrittenSoFar whole sofar' vs i' (drop (j + 1) l)
+write-turn {l} {j} {g} a whole sofar sofar' vs v i i' p q z r =
+    let m = drop (j + 1) l in
+    let x = write_next whole sofar vs g i m (subst (λ (y : List Segment). WrittenSoFar whole sofar vs i y) a.row r) in
+    let y = subst (λ (u : ℕ). WrittenSoFar whole (sofar ++ bits_of (width g) u) vs (next_place g i) m) (sym p) x in
+    subst (λ (n : ℕ). WrittenSoFar whole sofar' vs n m) (sym q) (subst (λ (b : List Bool). WrittenSoFar whole b vs (next_place g i) m) z y)
 
-pub write-end : (ks ws vs : List ℕ) (whole sofar : List Bool) (i j : ℕ) → length ks ≡ length ws → j ≡ length ws
-    → WrittenSoFar whole sofar vs i (drop j (segments ks ws)) → whole ≡ sofar
+pub write-end : (l : List Segment) (whole sofar : List Bool) (vs : List ℕ) (i j : ℕ) → j ≡ length l
+    → WrittenSoFar whole sofar vs i (drop j l) → whole ≡ sofar
 unfolding with_fixed widths pack
-write-end ks ws vs whole sofar i j e h r =
-    (subst (λ (y : List Segment). WrittenSoFar whole sofar vs i y) (no-segments ks ws j e h) r).row ∙ append-nil sofar
+write-end l whole sofar vs i j h r =
+    (subst (λ (y : List Segment). WrittenSoFar whole sofar vs i y) (no_segments l j h) r).row ∙ append-nil sofar
 
 -- a buffer whose bits so far are written and whose others are those of the buffer before, after one more field
 pub put-turn : (buf buf' before : List ℕ) (at w v : ℕ) → length buf ≡ length before → at + w ≤ 8 * length before → w ≤ 64 → buf' ≡ put_of buf at w v

@@ -1,14 +1,28 @@
 -- One segment of a row, as the loops take it. No promise speaks of these. Assumes nothing.
-use Rattle.std.specs.Prelude.{cond, List, ℕ, ◌+◌, ◌-◌, ◌^◌, eqb, get_or, set}
+use Rattle.std.specs.Prelude.{List, ℕ, ◌+◌, ◌-◌, ◌^◌, get_or, set}
+use Rattle.bits.specs.declared.Segment.{Segment}
+use Rattle.bits.specs.declared.Segment.TheVariants.{Field, Ones, Zeros}
+
+-- P, of a field
+abbrev pub IfField : Segment → Type 0 → Type 0
+IfField (Field w) P = P
+IfField (Ones w) P = Unit {0}
+IfField (Zeros w) P = Unit {0}
 
 -- the place of the next field's value
-abbrev pub next_place : (kind i : ℕ) → ℕ
-next_place kind i = cond (eqb kind 0) (i + 1) i
+abbrev pub next_place : Segment → (i : ℕ) → ℕ
+next_place (Field w) i = i + 1
+next_place (Ones w) i = i
+next_place (Zeros w) i = i
 
 -- the values after a segment that holds v
-abbrev pub stored : (kind v i : ℕ) → List ℕ → List ℕ
-stored kind v i out = cond (eqb kind 0) (set out i v) out
+abbrev pub stored : Segment → (v i : ℕ) → List ℕ → List ℕ
+stored (Field w) v i out = set out i v
+stored (Ones w) v i out = out
+stored (Zeros w) v i out = out
 
 -- what the segment holds
-abbrev pub segment_value : (kind w i : ℕ) → List ℕ → ℕ
-segment_value kind w i vs = cond (eqb kind 0) (get_or vs i 0) (cond (eqb kind 1) (2 ^ w - 1) 0)
+abbrev pub segment_value : Segment → (i : ℕ) → List ℕ → ℕ
+segment_value (Field w) i vs = get_or vs i 0
+segment_value (Ones w) i vs = 2 ^ w - 1
+segment_value (Zeros w) i vs = 0

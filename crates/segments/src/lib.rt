@@ -1,24 +1,28 @@
-// Rows of segments, fields and fixed bits end to end, by a table of kinds beside a table of widths: kind 0 is a field, 1 is fixed at 1, any other at 0.
-// The tables are the calling program's own, known when it is written: that they have one length and find room is for its proof to show once.
+// Rows of segments, fields and fixed bits end to end, by a table of them.
+// The table is the calling program's own, known when it is written: that it finds room is for its proof to show once.
 #![tactic(auto)]
 
 ghost use Rattle.std.specs.Prelude.{◌≡◌, ◌&&◌, ◌++◌, ◌+◌, ◌<◌, ◌≤◌, length, drop};
 ghost use Rattle.bits.specs.Bits.{bits};
 ghost use Rattle.bits.specs.Layout.{sum, Layout};
-ghost use Rattle.bits.specs.Segment.{segments, free_widths, pack_segments, unpack_segments, fixed_bits_hold};
-ghost use Rattle.segments.specs.Step.{stored, next_place, segment_value};
+ghost use Rattle.bits.specs.Segment.{width, widths, free_widths, pack_segments, unpack_segments, fixed_bits_hold};
+ghost use Rattle.segments.specs.Step.{IfField, stored, next_place, segment_value};
+
+use bits::Segment;
 
 // A segment that holds v: a field's value goes to place i, and the place after it is answered; a fixed segment leaves both as they are.
-fn keep(kind: u8, v: u64, out: &mut [u64], i: usize) -> usize
-    requires { (i ≤ length out.old) × (kind ≡ 0 → i < length out.old) }
-    ensures place { result ≡ next_place kind i }
-    ensures stored { out.new ≡ stored kind v i out.old }
+fn keep(segment: Segment, v: u64, out: &mut [u64], i: usize) -> usize
+    requires { (i ≤ length out.old) × IfField segment (i < length out.old) }
+    ensures place { result ≡ next_place segment i }
+    ensures stored { out.new ≡ stored segment v i out.old }
 {
-    if kind == 0 {
-        out[i] = v;
-        return i + 1;
+    match segment {
+        Segment::Field(_) => {
+            out[i] = v;
+            i + 1
+        }
+        _ => i,
     }
-    i
 }
 
 fn both(a: bool, b: bool) -> bool
@@ -31,65 +35,58 @@ fn both(a: bool, b: bool) -> bool
 }
 
 // The values of the fields; the answer is whether the fixed bits are as they should be.
-pub fn read_fields(s: &[u8], kinds: &[u8], ws: &[usize], out: &mut [u64]) -> bool
-    requires { Layout ws.now (length s.now) × (length kinds.now ≡ length ws.now) × (length out.old ≡ length (free_widths (segments kinds.now ws.now))) }
-    ensures fixed { result ≡ fixed_bits_hold (segments kinds.now ws.now) (bits s.now) }
-    ensures values { out.new ≡ unpack_segments (segments kinds.now ws.now) (bits s.now) }
+pub fn read_fields(s: &[u8], layout: &[Segment], out: &mut [u64]) -> bool
+    requires { Layout (widths layout.now) (length s.now) × (length out.old ≡ length (free_widths layout.now)) }
+    ensures fixed { result ≡ fixed_bits_hold layout.now (bits s.now) }
+    ensures values { out.new ≡ unpack_segments layout.now (bits s.now) }
 {
     let mut at = 0;
     let mut i = 0;
-    let mut j = 0;
     let mut fixed = true;
-    while j < ws.len() {
-        let w = ws[j];
-        let kind = kinds[j];
-        let v = bit_fields::get(s, at, w);
-        i = keep(kind, v, out, i);
-        fixed = both(fixed, bit_layouts::segment_holds(kind, w, v));
-        at += w;
-        j += 1;
+    for segment in layout {
+        let width = segment.width();
+        let v = bit_fields::get(s, at, width);
+        i = keep(*segment, v, out, i);
+        fixed = both(fixed, bit_layouts::segment_holds(*segment, v));
+        at += width;
     }
     fixed
 }
 
 // What a segment holds: of a field the value at place i, otherwise its fixed bits.
-fn segment_value(kind: u8, w: usize, vs: &[u64], i: usize) -> u64
-    requires { (w < 64) × (kind ≡ 0 → i < length vs.now) }
-    ensures { result ≡ segment_value kind w i vs.now }
+fn segment_value(segment: Segment, vs: &[u64], i: usize) -> u64
+    requires { (width segment < 64) × IfField segment (i < length vs.now) }
+    ensures { result ≡ segment_value segment i vs.now }
 {
-    if kind == 0 {
-        return vs[i];
+    match segment {
+        Segment::Field(_) => vs[i],
+        Segment::Ones(width) => numbers::pow2(width) - 1,
+        Segment::Zeros(_) => 0,
     }
-    if kind == 1 {
-        return numbers::pow2(w) - 1;
-    }
-    0
 }
 
-fn next_place(kind: u8, i: usize) -> usize
+fn next_place(segment: Segment, i: usize) -> usize
     requires { i < 65536 }
-    ensures { result ≡ next_place kind i }
+    ensures { result ≡ next_place segment i }
 {
-    if kind == 0 {
-        return i + 1;
+    match segment {
+        Segment::Field(_) => i + 1,
+        _ => i,
     }
-    i
 }
 
 // The fields with these values, and the fixed bits among them, from the first bit on; the bits after them stay. A value too wide for its field loses its high
 // bits: `bit_layouts::fits_all` tells beforehand.
-pub fn write_fields(buf: &mut [u8], kinds: &[u8], ws: &[usize], vs: &[u64])
-    requires { Layout ws.now (length buf.old) × (length kinds.now ≡ length ws.now) × (length vs.now ≡ length (free_widths (segments kinds.now ws.now))) × (length vs.now < 65536) }
-    ensures { bits buf.new ≡ pack_segments (segments kinds.now ws.now) vs.now ++ drop (sum ws.now) (bits buf.old) }
+pub fn write_fields(buf: &mut [u8], layout: &[Segment], vs: &[u64])
+    requires { Layout (widths layout.now) (length buf.old) × (length vs.now ≡ length (free_widths layout.now)) × (length vs.now < 65536) }
+    ensures { bits buf.new ≡ pack_segments layout.now vs.now ++ drop (sum (widths layout.now)) (bits buf.old) }
 {
     let mut at = 0;
     let mut i = 0;
-    let mut j = 0;
-    while j < ws.len() {
-        let w = ws[j];
-        bit_fields::put(buf, at, w, segment_value(kinds[j], w, vs, i));
-        i = next_place(kinds[j], i);
-        at += w;
-        j += 1;
+    for segment in layout {
+        let width = segment.width();
+        bit_fields::put(buf, at, width, segment_value(*segment, vs, i));
+        i = next_place(*segment, i);
+        at += width;
     }
 }

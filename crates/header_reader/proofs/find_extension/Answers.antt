@@ -12,10 +12,10 @@ use Rattle.header_reader.proofs.find_extension.Goals as goal
 
 pub read_fields-fixed-requires : goal.read_fields-fixed-requires
 read_fields-fixed-requires c =
-    read-room extension_layout _ _ c.extension_kinds-kinds.ensures c.extension_widths-widths.ensures 85 26 _ _ extension-row (simp (length-take, length-drop) (omega (arith, c.requires))) (ap length c.zeros-v.ensures)
+    read-room extension_layout _ c.extension_layout-layout.ensures 85 26 _ _ extension-row (simp (length-take, length-drop) (omega (arith, c.requires))) (ap length c.zeros-v.ensures)
 
 pub returns : goal.returns
 unfolding extension_in extension_wrong
 returns c =
-    let p = part-read extension_layout _ _ c.extension_kinds-kinds.ensures c.extension_widths-widths.ensures extension_of _ _ _ _ (c.read_fields-fixed.ensures.fixed, c.read_fields-fixed.ensures.values) c.extension_of-extension.ensures in
+    let p = part-read extension_layout _ c.extension_layout-layout.ensures extension_of _ _ _ _ (c.read_fields-fixed.ensures.fixed, c.read_fields-fixed.ensures.values) c.extension_of-extension.ensures in
     λ i. record { fixed = p.0 i; extension = p.1 i }

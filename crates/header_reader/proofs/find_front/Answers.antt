@@ -12,10 +12,10 @@ use Rattle.header_reader.proofs.find_front.Goals as goal
 
 pub read_fields-fixed-requires : goal.read_fields-fixed-requires
 read_fields-fixed-requires c =
-    read-room front_layout _ _ c.front_kinds-kinds.ensures c.front_widths-widths.ensures 99 119 _ _ front-row (simp (length-take, length-drop) (omega (arith, c.requires))) (ap length c.zeros-v.ensures)
+    read-room front_layout _ c.front_layout-layout.ensures 99 119 _ _ front-row (simp (length-take, length-drop) (omega (arith, c.requires))) (ap length c.zeros-v.ensures)
 
 pub returns : goal.returns
 unfolding front_in slot_bit_wrong
 returns c =
-    let p = part-read front_layout _ _ c.front_kinds-kinds.ensures c.front_widths-widths.ensures front_of _ _ _ _ (c.read_fields-fixed.ensures.fixed, c.read_fields-fixed.ensures.values) c.front_of-front.ensures in
+    let p = part-read front_layout _ c.front_layout-layout.ensures front_of _ _ _ _ (c.read_fields-fixed.ensures.fixed, c.read_fields-fixed.ensures.values) c.front_of-front.ensures in
     λ i. record { fixed = p.0 i; front = p.1 i }

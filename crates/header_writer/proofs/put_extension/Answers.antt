@@ -13,11 +13,11 @@ pub write_fields-requires : goal.write_fields-requires
 write_fields-requires c =
     let vs = c.args.extension.ac in
     let l : length vs ≡ 26 = search rules in
-    write-room extension_layout c.extension_kinds-kinds.result c.extension_widths-widths.result c.extension_kinds-kinds.ensures c.extension_widths-widths.ensures 85 26 (length c.args.part.now) vs extension-row (omega (arith, c.requires)) l (omega arith)
+    write-room extension_layout c.extension_layout-layout.result c.extension_layout-layout.ensures 85 26 (length c.args.part.now) vs extension-row (omega (arith, c.requires)) l (omega arith)
 
 pub returns : goal.returns
 unfolding extension_fields
 returns c =
     let s = c.args.part.now in
-    written extension_layout c.extension_kinds-kinds.result c.extension_widths-widths.result c.extension_kinds-kinds.ensures c.extension_widths-widths.ensures 85 26 c.args.extension.ac s c.write_fields.new.buf extension-row (omega (arith, c.requires)) c.write_fields.auto.buf
+    written extension_layout c.extension_layout-layout.result c.extension_layout-layout.ensures 85 26 c.args.extension.ac s c.write_fields.new.buf extension-row (omega (arith, c.requires)) c.write_fields.auto.buf
     (λ i. (c.slice_known-1.given i).fits) (λ i. (c.type_inv.part i).fits) c.write_fields.ensures

@@ -15,11 +15,11 @@ pub write_fields-requires : goal.write_fields-requires
 write_fields-requires c =
     let vs = c.front_fields-v.result in
     let l : length vs ≡ 119 = search rules in
-    write-room front_layout c.front_kinds-kinds.result c.front_widths-widths.result c.front_kinds-kinds.ensures c.front_widths-widths.ensures 99 119 (length c.args.buffer.now) vs front-row (omega (arith, c.requires)) l (omega arith)
+    write-room front_layout c.front_layout-layout.result c.front_layout-layout.ensures 99 119 (length c.args.buffer.now) vs front-row (omega (arith, c.requires)) l (omega arith)
 
 pub returns : goal.returns
 returns c =
     let s = c.args.buffer.now in
-    written front_layout c.front_kinds-kinds.result c.front_widths-widths.result c.front_kinds-kinds.ensures c.front_widths-widths.ensures 99 119 c.front_fields-v.result s c.write_fields.new.buf front-row (omega (arith, c.requires)) c.write_fields.auto.buf
+    written front_layout c.front_layout-layout.result c.front_layout-layout.ensures 99 119 c.front_fields-v.result s c.write_fields.new.buf front-row (omega (arith, c.requires)) c.write_fields.auto.buf
     (λ i. (c.slice_known-1.given i).fits) (λ i. (c.type_inv.buffer i).fits) c.write_fields.ensures
     ∙ ap (λ v. bytes 99 (pack_segments front_layout v) ++ drop 99 s) c.front_fields-v.ensures

@@ -12,7 +12,9 @@ use lib.ListN.{length, get_or, drop}
 use lib.Pow.{pow_pos, ones_lt}
 use Rattle.bits.specs.Bits.{bits, bytes, Bytes}
 use Rattle.bits.specs.Layout.{pack, unpack, sum, Fit}
-use Rattle.bits.specs.Segment.{Segment, field, fixedOnes, fixedZeros, segment, segments, width, widths, free_widths, holds, fixed_hold, free, with_fixed, pack_segments, unpack_segments, fixed_bits_hold}
+use Rattle.bits.specs.declared.Segment.{Segment}
+use Rattle.bits.specs.declared.Segment.TheVariants.{Field, Ones, Zeros}
+use Rattle.bits.specs.Segment.{width, widths, free_widths, holds, fixed_hold, free, with_fixed, pack_segments, unpack_segments, fixed_bits_hold}
 use Rattle.bits.proofs.Bits.{length-bits, bits-bytes, bytes-bits}
 use Rattle.bits.proofs.Layouts.{length-pack, unpack-pack, pack-unpack, fit-unpack, length-fit, length-unpack, unpack-append, pack-append}
 
@@ -26,66 +28,66 @@ length-widths (g ∷ l) = ap suc (length-widths l)
 pub length-with_fixed : (l : List Segment) (vs : List ℕ) → length (with_fixed l vs) ≡ length l
 unfolding with_fixed
 length-with_fixed [] vs = refl
-length-with_fixed (field w ∷ l) [] = ap suc (length-with_fixed l [])
-length-with_fixed (field w ∷ l) (v ∷ vs) = ap suc (length-with_fixed l vs)
-length-with_fixed (fixedOnes w ∷ l) vs = ap suc (length-with_fixed l vs)
-length-with_fixed (fixedZeros w ∷ l) vs = ap suc (length-with_fixed l vs)
+length-with_fixed (Field w ∷ l) [] = ap suc (length-with_fixed l [])
+length-with_fixed (Field w ∷ l) (v ∷ vs) = ap suc (length-with_fixed l vs)
+length-with_fixed (Ones w ∷ l) vs = ap suc (length-with_fixed l vs)
+length-with_fixed (Zeros w ∷ l) vs = ap suc (length-with_fixed l vs)
 
 pub length-free : (l : List Segment) (vs : List ℕ) → length vs ≡ length l → length (free l vs) ≡ length (free_widths l)
 unfolding free free_widths
 length-free [] vs e = refl
 length-free (g ∷ l) [] e = absurd (omega arith)
-length-free (field w ∷ l) (v ∷ vs) e = ap suc (length-free l vs (suc_inj e))
-length-free (fixedOnes w ∷ l) (v ∷ vs) e = length-free l vs (suc_inj e)
-length-free (fixedZeros w ∷ l) (v ∷ vs) e = length-free l vs (suc_inj e)
+length-free (Field w ∷ l) (v ∷ vs) e = ap suc (length-free l vs (suc_inj e))
+length-free (Ones w ∷ l) (v ∷ vs) e = length-free l vs (suc_inj e)
+length-free (Zeros w ∷ l) (v ∷ vs) e = length-free l vs (suc_inj e)
 
 pub free-with_fixed : (l : List Segment) (vs : List ℕ) → length vs ≡ length (free_widths l) → free l (with_fixed l vs) ≡ vs
 unfolding free with_fixed free_widths
 free-with_fixed [] [] e = refl
 free-with_fixed [] (v ∷ vs) e = absurd (omega arith)
-free-with_fixed (field w ∷ l) [] e = absurd (omega arith)
-free-with_fixed (field w ∷ l) (v ∷ vs) e = ap (λ (x : List ℕ). v ∷ x) (free-with_fixed l vs (suc_inj e))
-free-with_fixed (fixedOnes w ∷ l) vs e = free-with_fixed l vs e
-free-with_fixed (fixedZeros w ∷ l) vs e = free-with_fixed l vs e
+free-with_fixed (Field w ∷ l) [] e = absurd (omega arith)
+free-with_fixed (Field w ∷ l) (v ∷ vs) e = ap (λ (x : List ℕ). v ∷ x) (free-with_fixed l vs (suc_inj e))
+free-with_fixed (Ones w ∷ l) vs e = free-with_fixed l vs e
+free-with_fixed (Zeros w ∷ l) vs e = free-with_fixed l vs e
 
 pub with_fixed-free : (l : List Segment) (vs : List ℕ) → fixed_hold l vs ≡ true → with_fixed l (free l vs) ≡ vs
 unfolding free with_fixed fixed_hold
 with_fixed-free [] [] e = refl
 with_fixed-free [] (v ∷ vs) e = absurd (false≢true e)
 with_fixed-free (g ∷ l) [] e = absurd (false≢true e)
-with_fixed-free (field w ∷ l) (v ∷ vs) e = ap (λ (x : List ℕ). v ∷ x) (with_fixed-free l vs e)
-with_fixed-free (fixedOnes w ∷ l) (v ∷ vs) e =
+with_fixed-free (Field w ∷ l) (v ∷ vs) e = ap (λ (x : List ℕ). v ∷ x) (with_fixed-free l vs e)
+with_fixed-free (Ones w ∷ l) (v ∷ vs) e =
     let h = (and-eq-true_iff (eqb v (2 ^ w - 1)) (fixed_hold l vs)).0 e in
     ap₂ (λ (y : ℕ) (x : List ℕ). y ∷ x) (sym (eqb-true v (2 ^ w - 1) h.0)) (with_fixed-free l vs h.1)
-with_fixed-free (fixedZeros w ∷ l) (v ∷ vs) e =
+with_fixed-free (Zeros w ∷ l) (v ∷ vs) e =
     let h = (and-eq-true_iff (eqb v 0) (fixed_hold l vs)).0 e in
     ap₂ (λ (y : ℕ) (x : List ℕ). y ∷ x) (sym (eqb-true v 0 h.0)) (with_fixed-free l vs h.1)
 
 pub fixed_hold-with_fixed : (l : List Segment) (vs : List ℕ) → fixed_hold l (with_fixed l vs) ≡ true
 unfolding with_fixed fixed_hold
 fixed_hold-with_fixed [] vs = refl
-fixed_hold-with_fixed (field w ∷ l) [] = fixed_hold-with_fixed l []
-fixed_hold-with_fixed (field w ∷ l) (v ∷ vs) = fixed_hold-with_fixed l vs
-fixed_hold-with_fixed (fixedOnes w ∷ l) vs =
+fixed_hold-with_fixed (Field w ∷ l) [] = fixed_hold-with_fixed l []
+fixed_hold-with_fixed (Field w ∷ l) (v ∷ vs) = fixed_hold-with_fixed l vs
+fixed_hold-with_fixed (Ones w ∷ l) vs =
     ap (λ (t : Bool). t && fixed_hold l (with_fixed l vs)) (eq-eqb (2 ^ w - 1) (2 ^ w - 1) refl) ∙ fixed_hold-with_fixed l vs
-fixed_hold-with_fixed (fixedZeros w ∷ l) vs = fixed_hold-with_fixed l vs
+fixed_hold-with_fixed (Zeros w ∷ l) vs = fixed_hold-with_fixed l vs
 
 -- values that fit the fields fit with the fixed ones among them, and back
 pub fit-with_fixed : (l : List Segment) (vs : List ℕ) → Fit (free_widths l) vs → Fit (widths l) (with_fixed l vs)
 unfolding with_fixed widths free_widths
 fit-with_fixed [] vs f = tt
-fit-with_fixed (field w ∷ l) [] f = absurd f
-fit-with_fixed (field w ∷ l) (v ∷ vs) f = (f.0, fit-with_fixed l vs f.1)
-fit-with_fixed (fixedOnes w ∷ l) vs f = (ones_lt w, fit-with_fixed l vs f)
-fit-with_fixed (fixedZeros w ∷ l) vs f = (pow_pos w, fit-with_fixed l vs f)
+fit-with_fixed (Field w ∷ l) [] f = absurd f
+fit-with_fixed (Field w ∷ l) (v ∷ vs) f = (f.0, fit-with_fixed l vs f.1)
+fit-with_fixed (Ones w ∷ l) vs f = (ones_lt w, fit-with_fixed l vs f)
+fit-with_fixed (Zeros w ∷ l) vs f = (pow_pos w, fit-with_fixed l vs f)
 
 pub fit_free : (l : List Segment) (vs : List ℕ) → Fit (widths l) vs → Fit (free_widths l) (free l vs)
 unfolding free widths free_widths
 fit_free [] vs f = tt
 fit_free (g ∷ l) [] f = absurd f
-fit_free (field w ∷ l) (v ∷ vs) f = (f.0, fit_free l vs f.1)
-fit_free (fixedOnes w ∷ l) (v ∷ vs) f = fit_free l vs f.1
-fit_free (fixedZeros w ∷ l) (v ∷ vs) f = fit_free l vs f.1
+fit_free (Field w ∷ l) (v ∷ vs) f = (f.0, fit_free l vs f.1)
+fit_free (Ones w ∷ l) (v ∷ vs) f = fit_free l vs f.1
+fit_free (Zeros w ∷ l) (v ∷ vs) f = fit_free l vs f.1
 
 -- ---- a whole layout
 
@@ -130,27 +132,27 @@ widths-append (g ∷ l) m = ap (λ (x : List ℕ). width g ∷ x) (widths-append
 pub free_widths-append : (l m : List Segment) → free_widths (l ++ m) ≡ free_widths l ++ free_widths m
 unfolding free_widths
 free_widths-append [] m = refl
-free_widths-append (field w ∷ l) m = ap (λ (x : List ℕ). w ∷ x) (free_widths-append l m)
-free_widths-append (fixedOnes w ∷ l) m = free_widths-append l m
-free_widths-append (fixedZeros w ∷ l) m = free_widths-append l m
+free_widths-append (Field w ∷ l) m = ap (λ (x : List ℕ). w ∷ x) (free_widths-append l m)
+free_widths-append (Ones w ∷ l) m = free_widths-append l m
+free_widths-append (Zeros w ∷ l) m = free_widths-append l m
 
 pub free-append : (l m : List Segment) (vs us : List ℕ) → length vs ≡ length l → free (l ++ m) (vs ++ us) ≡ free l vs ++ free m us
 unfolding free
 free-append [] m [] us e = refl
 free-append [] m (v ∷ vs) us e = absurd (omega arith)
 free-append (g ∷ l) m [] us e = absurd (omega arith)
-free-append (field w ∷ l) m (v ∷ vs) us e = ap (λ (x : List ℕ). v ∷ x) (free-append l m vs us (suc_inj e))
-free-append (fixedOnes w ∷ l) m (v ∷ vs) us e = free-append l m vs us (suc_inj e)
-free-append (fixedZeros w ∷ l) m (v ∷ vs) us e = free-append l m vs us (suc_inj e)
+free-append (Field w ∷ l) m (v ∷ vs) us e = ap (λ (x : List ℕ). v ∷ x) (free-append l m vs us (suc_inj e))
+free-append (Ones w ∷ l) m (v ∷ vs) us e = free-append l m vs us (suc_inj e)
+free-append (Zeros w ∷ l) m (v ∷ vs) us e = free-append l m vs us (suc_inj e)
 
 pub with_fixed-append : (l m : List Segment) (vs us : List ℕ) → length vs ≡ length (free_widths l) → with_fixed (l ++ m) (vs ++ us) ≡ with_fixed l vs ++ with_fixed m us
 unfolding with_fixed free_widths
 with_fixed-append [] m [] us e = refl
 with_fixed-append [] m (v ∷ vs) us e = absurd (omega arith)
-with_fixed-append (field w ∷ l) m [] us e = absurd (omega arith)
-with_fixed-append (field w ∷ l) m (v ∷ vs) us e = ap (λ (x : List ℕ). v ∷ x) (with_fixed-append l m vs us (suc_inj e))
-with_fixed-append (fixedOnes w ∷ l) m vs us e = ap (λ (x : List ℕ). (2 ^ w - 1) ∷ x) (with_fixed-append l m vs us e)
-with_fixed-append (fixedZeros w ∷ l) m vs us e = ap (λ (x : List ℕ). 0 ∷ x) (with_fixed-append l m vs us e)
+with_fixed-append (Field w ∷ l) m [] us e = absurd (omega arith)
+with_fixed-append (Field w ∷ l) m (v ∷ vs) us e = ap (λ (x : List ℕ). v ∷ x) (with_fixed-append l m vs us (suc_inj e))
+with_fixed-append (Ones w ∷ l) m vs us e = ap (λ (x : List ℕ). (2 ^ w - 1) ∷ x) (with_fixed-append l m vs us e)
+with_fixed-append (Zeros w ∷ l) m vs us e = ap (λ (x : List ℕ). 0 ∷ x) (with_fixed-append l m vs us e)
 
 pub fixed_hold-append : (l m : List Segment) (vs us : List ℕ) → length vs ≡ length l → fixed_hold (l ++ m) (vs ++ us) ≡ (fixed_hold l vs && fixed_hold m us)
 unfolding fixed_hold
@@ -179,32 +181,12 @@ fixed_bits_hold-append l m bs =
     ap (fixed_hold (l ++ m)) (unpack-widths l m bs)
     ∙ fixed_hold-append l m (unpack (widths l) bs) (unpack (widths m) (drop (sum (widths l)) bs)) (length-unpack (widths l) bs ∙ length-widths l)
 
--- ---- the segments of a table
+-- ---- a segment of a row
 
-width-segment : (k w : ℕ) → width (segment k w) ≡ w
-width-segment k w = go (eqb k 0) (eqb k 1)
-  where
-    go : (s t : Bool) → width (cond s (field w) (cond t (fixedOnes w) (fixedZeros w))) ≡ w
-    go true t = refl
-    go false true = refl
-    go false false = refl
-
-pub length-segments : (ks ws : List ℕ) → length (segments ks ws) ≡ min (length ks) (length ws)
-unfolding segments
-length-segments [] ws = omega arith
-length-segments (k ∷ ks) [] = omega arith
-length-segments (k ∷ ks) (w ∷ ws) = omega (arith, length-segments ks ws)
-
-pub widths-segments : (ks ws : List ℕ) → length ks ≡ length ws → widths (segments ks ws) ≡ ws
-unfolding segments widths
-widths-segments [] [] e = refl
-widths-segments [] (w ∷ ws) e = absurd (omega arith)
-widths-segments (k ∷ ks) [] e = absurd (omega arith)
-widths-segments (k ∷ ks) (w ∷ ws) e = ap₂ (λ (x : ℕ) (l : List ℕ). x ∷ l) (width-segment k w) (widths-segments ks ws (suc_inj e))
-
-pub get_or-segments : (ks ws : List ℕ) (j : ℕ) → j < length ks → j < length ws → get_or (segments ks ws) j (field 0) ≡ segment (get_or ks j 0) (get_or ws j 0)
-unfolding segments
-get_or-segments [] ws j hk hw = absurd (not-suc-le-zero hk)
-get_or-segments (k ∷ ks) [] j hk hw = absurd (not-suc-le-zero hw)
-get_or-segments (k ∷ ks) (w ∷ ws) zero hk hw = refl
-get_or-segments (k ∷ ks) (w ∷ ws) (suc j) hk hw = get_or-segments ks ws j (le_of_suc-le-suc hk) (le_of_suc-le-suc hw)
+-- what is left of a row has the widths that are left
+pub widths-drop : (l : List Segment) (j : ℕ) → widths (drop j l) ≡ drop j (widths l)
+unfolding widths
+widths-drop [] zero = refl
+widths-drop [] (suc j) = refl
+widths-drop (g ∷ l) zero = refl
+widths-drop (g ∷ l) (suc j) = widths-drop l j

@@ -1,9 +1,0 @@
--- `segments::next_place` meets its contract. Assumes nothing.
-use borrow.Author.Tests.{eq-eqb, ne_eqb}
-use Rattle.segments.proofs.next_place.Goals as goal
-
-pub returns-then-kind-eq0 : goal.returns-then-kind-eq0
-returns-then-kind-eq0 c = simp (eq-eqb _ _ c.if-kind-eq0.true)
-
-pub returns : goal.returns
-returns c = simp (ne_eqb _ _ c.if-kind-eq0.false)
