@@ -2,7 +2,7 @@
 // The table is the calling program's own, known when it is written: that it finds room is for its proof to show once.
 #![tactic(auto)]
 
-ghost use Rattle.std.specs.Prelude.{◌≡◌, ◌&&◌, ◌++◌, ◌+◌, ◌<◌, ◌≤◌, length, drop};
+ghost use Rattle.std.specs.Prelude.{◌≡◌, ◌++◌, ◌+◌, ◌<◌, ◌≤◌, length, drop};
 ghost use Rattle.bits.specs.Bits.{bits};
 ghost use Rattle.bits.specs.Layout.{sum, Layout};
 ghost use Rattle.bits.specs.Segment.{width, widths, free_widths, pack_segments, unpack_segments, fixed_bits_hold};
@@ -25,15 +25,6 @@ fn keep(segment: Segment, v: u64, out: &mut [u64], i: usize) -> usize
     }
 }
 
-fn both(a: bool, b: bool) -> bool
-    ensures { result ≡ (a && b) }
-{
-    if a {
-        return b;
-    }
-    false
-}
-
 // The values of the fields; the answer is whether the fixed bits are as they should be.
 pub fn read_fields(s: &[u8], layout: &[Segment], out: &mut [u64]) -> bool
     requires { Layout (widths layout.now) (length s.now) × (length out.old ≡ length (free_widths layout.now)) }
@@ -47,7 +38,7 @@ pub fn read_fields(s: &[u8], layout: &[Segment], out: &mut [u64]) -> bool
         let width = segment.width();
         let v = bit_fields::get(s, at, width);
         i = keep(*segment, v, out, i);
-        fixed = both(fixed, bit_layouts::segment_holds(*segment, v));
+        fixed &= bit_layouts::segment_holds(*segment, v);
         at += width;
     }
     fixed

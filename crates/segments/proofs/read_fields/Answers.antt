@@ -47,7 +47,7 @@ loop-segment-preserved c =
           read-turn a _ c.loop-segment.out _ (bits s) at c.loop-segment.i _ c.keep-i.ensures.place
           (c.keep-i.ensures.stored ∙ ap (λ (x : ℕ). stored g x c.loop-segment.i c.loop-segment.out) v) c.loop-segment.invariant.values;
       fixed =
-          fixed-turn a (bits s) at _ c.loop-segment.fixed _ c.segment_holds.result (c.segment_holds.ensures ∙ ap (holds g) v) c.both-fixed.ensures c.loop-segment.invariant.fixed;
+          fixed-turn a (bits s) at _ c.loop-segment.fixed _ c.segment_holds-fixed.result (c.segment_holds-fixed.ensures ∙ ap (holds g) v) refl c.loop-segment.invariant.fixed;
     }
 
 pub returns : goal.returns
