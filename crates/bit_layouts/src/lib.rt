@@ -54,7 +54,7 @@ pub fn fits_all(ws: &[usize], vs: &[u64]) -> bool
 }
 
 // v is w bits that are all 1.
-fn all_ones(w: usize, v: u64) -> bool
+pub fn all_ones(w: usize, v: u64) -> bool
     ensures { result ≡ eqb v (2 ^ w - 1) }
 {
     if 64 < w {
@@ -72,7 +72,7 @@ pub fn segment_holds(segment: Segment, v: u64) -> bool
 {
     match segment {
         Segment::Field(_) => true,
-        Segment::Ones(width) => all_ones(width, v),
+        Segment::Ones(width) => all_ones(usize::from(width), v),
         Segment::Zeros(_) => v == 0,
     }
 }

@@ -9,7 +9,6 @@ ghost use Rattle.frame.specs.Body.{layout};
 ghost use Rattle.frame.specs.Fields.{body_values};
 ghost use Rattle.frame_details.specs.Details.{fields_read, ones_hold, ones_written, details_of};
 
-use bits::Segment;
 use frame::{Body, FIELDS, Record};
 
 // What the details hold: whether the fixed bits are as they should be, and the record.
@@ -42,13 +41,8 @@ fn ones_hold(body: Body, details: &[u8]) -> bool
     let span = frame_bodies::span_of(body);
     let before = 8 * span.before;
     let after = span.after;
-    bit_layouts::segment_holds(
-        Segment::Ones(before),
-        bit_fields::read_wide(details, 0, before),
-    ) & bit_layouts::segment_holds(
-        Segment::Ones(after),
-        bit_fields::read_wide(details, 88 - after, after),
-    )
+    bit_layouts::all_ones(before, bit_fields::read_wide(details, 0, before))
+        & bit_layouts::all_ones(after, bit_fields::read_wide(details, 88 - after, after))
 }
 
 // What the details of a body hold, with the fields that stand before them.

@@ -51,7 +51,7 @@ fn segment_value(segment: Segment, vs: &[u64], i: usize) -> u64
 {
     match segment {
         Segment::Field(_) => vs[i],
-        Segment::Ones(width) => numbers::pow2(width) - 1,
+        Segment::Ones(width) => numbers::pow2(usize::from(width)) - 1,
         Segment::Zeros(_) => 0,
     }
 }

@@ -21,5 +21,5 @@ read_wide-requires-2 c =
 
 pub returns : goal.returns
 returns c =
-    ones-seen c.args.body (bits c.args.details.now) c.span_of-span.ensures c.read_wide.ensures c.segment_holds.ensures
-    c.read_wide-2.ensures c.segment_holds-2.ensures
+    ones-seen c.args.body (bits c.args.details.now) c.span_of-span.ensures c.read_wide.ensures c.all_ones.ensures
+    c.read_wide-2.ensures c.all_ones-2.ensures

@@ -21,27 +21,6 @@ record Lengths (f : Front) : Type 0 where
 lengths : (c : Start) → Lengths c.args.front
 lengths c = record { valid = search rules; streams = search rules; networks = search rules; states = search rules; slots = search rules }
 
-pub put_values-requires : goal.put_values-requires
-put_values-requires c = simp length-set (omega (arith, lengths (goal.at.put_values-requires c).Start, ap length c.zeros-v.ensures))
-
-pub put_pairs-requires : goal.put_pairs-requires
-put_pairs-requires c =
-    let n = lengths (goal.at.put_pairs-requires c).Start in
-    let h : length c.put_values.new.out ≡ 119 = search rules in
-    (omega (arith, n), omega (arith, n))
-
-pub put_values-requires-2 : goal.put_values-requires-2
-put_values-requires-2 c =
-    let n = lengths (goal.at.put_values-requires-2 c).Start in
-    let h : length c.put_pairs.new.out ≡ 119 = search rules in
-    omega (arith, n)
-
-pub put_values-requires-3 : goal.put_values-requires-3
-put_values-requires-3 c =
-    let n = lengths (goal.at.put_values-requires-3 c).Start in
-    let h : length c.put_values-2.new.out ≡ 119 = search rules in
-    simp length-set (omega (arith, n))
-
 pub returns : goal.returns
 unfolding front_fields
 returns c =

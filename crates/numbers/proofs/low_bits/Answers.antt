@@ -5,9 +5,6 @@ use lib.Bits.{bit_and, and_mask}
 use lib.Pow.{pow_pos}
 use Rattle.numbers.proofs.low_bits.Goals as goal
 
-pub overflow_sub-result : goal.overflow_sub-result
-overflow_sub-result c = omega (arith, c.pow2.ensures, pow_pos c.args.n)
-
 pub returns : goal.returns
 returns c =
     let a = c.args in
