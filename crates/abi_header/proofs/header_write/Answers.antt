@@ -5,7 +5,6 @@ use Rattle.abi.proofs.Writing.{Written, write-wrong, write-answered}
 use Rattle.abi_header.specs.Header.{header_from, header_write_status, header_write_bytes}
 use Rattle.abi_header.proofs.header_write.Goals as goal
 
--- `abi_header::header_write` meets its contract. Assumes nothing.
 written : Written 145 header_from write_number write_of header_write_status header_write_bytes
 unfolding header_write_status header_write_bytes
 written = record { is-status = λ v s. refl; is-buffer = λ v s. refl }

@@ -7,7 +7,6 @@ use Rattle.abi_header.proofs.Cases.{fields-put}
 use Rattle.abi_header.proofs.put_fields.Goals as goal
 use Rattle.abi_header.proofs.put_fields.Goals.{Start}
 
--- `abi_header::put_fields` meets its contract. Assumes nothing.
 ac-count : (c : Start) → length c.args.header.extension.ac ≡ 26
 ac-count c = search rules
 

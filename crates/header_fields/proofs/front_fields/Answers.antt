@@ -10,7 +10,6 @@ use borrow.Author.Rules.{rules}
 use Rattle.header_fields.proofs.front_fields.Goals as goal
 use Rattle.header_fields.proofs.front_fields.Goals.{Start}
 
--- `header_fields::front_fields` meets its contract. Assumes nothing.
 record Lengths (f : Front) : Type 0 where
   valid : length f.valid ≡ 15
   streams : length f.streams ≡ 15

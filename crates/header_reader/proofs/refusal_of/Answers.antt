@@ -6,7 +6,6 @@ use borrow.Author.Rules.{rules}
 use Rattle.header_reader.proofs.refusal_of.Goals as goal
 use Rattle.header_reader.proofs.refusal_of.Goals.{Start}
 
--- `header_reader::refusal_of` meets its contract. Assumes nothing.
 states-long : (c : Start) → length c.args.front.front.states ≡ 15
 states-long c = search rules
 
