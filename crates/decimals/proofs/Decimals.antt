@@ -2,7 +2,8 @@
 use mathlib.Core.Path.{◌≡◌, refl, sym, ap, ◌∙◌}
 use mathlib.Core.Bool.{Bool, true, false}
 use mathlib.Core.List.{[], ◌∷◌, ◌++◌}
-use Prim.Native.Nat.{ℕ, zero, suc, ◌+◌, ◌*◌, ◌/◌, ◌%◌, ◌<◌, ◌≤◌}
+use Prim.Native.Nat.{ℕ, zero, suc, ◌+◌, ◌*◌, ◌/◌, ◌%◌, ◌^◌, ◌<◌, ◌≤◌}
+use native.Mathlib.Nat.{pow-suc, one-le-pow}
 use native.Mathlib.Omega.{arith}
 use lib.Dec.{ltb}
 use lib.ListN.{length, length-append}
@@ -89,5 +90,14 @@ length-byte n h = length_most 2 n (omega arith)
 pub length_last : (n : ℕ) → n < 18446744073709551616 → length (decimal n) ≡ length (leading (n / 10)) + 1
 length_last n h = rw (decimal-last n h, length-append)
 
-pub length-leading : (n : ℕ) → (n ≡ 0 → ⊥) → n < 18446744073709551616 → length (leading n) ≡ length (leading (n / 10)) + 1
-length-leading n z h = rw (leading-some n z) (length_last n h)
+-- 0 has one digit
+pub length-none : {n : ℕ} → n ≡ 0 → 1 ≡ length (decimal n)
+length-none {n} e = rw (digits-one 19 n (omega arith))
+
+-- a number that reaches a power of ten has one digit more than the power says
+pub length-power : (k n : ℕ) → n < 18446744073709551616 → 10 ^ k ≤ n → n < 10 * 10 ^ k → k + 1 ≡ length (decimal n)
+length-power zero n h l m = rw (digits-one 19 n (omega arith))
+length-power (suc k) n h l m =
+    let z : n / 10 ≡ 0 → ⊥ = λ e. omega (arith, pow-suc 10 k, one-le-pow k 10 (omega arith)) in
+    let r = length-power k (n / 10) (omega arith) (omega (arith, pow-suc 10 k)) (omega (arith, pow-suc 10 k)) in
+    rw (length_last n h, leading-some (n / 10) z) (omega (arith, r))

@@ -1,41 +1,45 @@
 -- Laws of reading text: what stands behind a label, and the number that digits say. Assumes nothing.
 use mathlib.Core.Path.{◌≡◌, refl, sym, ap, ap₂, subst, ◌∙◌}
-use mathlib.Core.Bool.{Bool, true, false, ◌&&◌, and-eq-true_iff}
+use mathlib.Core.Bool.{Bool, true, false, and-eq-true_iff, true≢false}
 use mathlib.Core.List.{List, [], ◌∷◌, ◌++◌}
 use Prim.Native.Nat.{ℕ, zero, suc, ◌+◌, ◌-◌, ◌*◌, ◌/◌, ◌%◌, ◌<◌, ◌≤◌}
 use native.Mathlib.Numerals.{add-one}
 use native.Mathlib.Omega.{arith}
 use lib.Dec.{eqb, leb, ltb}
-use lib.ListN.{length, get_or, drop, length-append, drop_of_length-le}
-use lib.Seq.{drop_at, drop-cons, append_snoc}
+use lib.ListN.{length, get_or, take, drop, length-append, drop_of_length-le}
+use lib.Pointwise.{pointwise, bytes_decides}
+use Rattle.std.proofs.lemmas.Bool.{false_from_ne_true}
+use Rattle.std.proofs.lemmas.List.{take-append-drop}
+use lib.Seq.{take_at, drop_at, drop-cons, append_snoc}
 use borrow.Author.Tests.{lt-ltb, le-ltb, le-leb, eq-eqb, ne_eqb, ltb-true, ltb-false, leb-true, eqb-true, eqb-false}
 use Rattle.decimals.specs.Decimal.{digits, decimal}
-use Rattle.decimals.specs.Reading.{starts_with, is_digit, digits_from, decimal_at}
-use Rattle.decimals.specs.declared.Found.TheVariants.{Number, Nothing}
+use Rattle.decimals.specs.Reading.{starts_with, is_digit, number, digits_from, decimal_at}
+use Rattle.std.specs.Prelude.{None}
+use Rattle.decimals.specs.declared.Number.{Number}
 use Rattle.decimals.proofs.Decimals.{leading-some, digits-one, decimal-last}
 
 -- ---- at the edges of the rules
 
 -- of `07` only the 0 is a number
-zero-in-front : decimal_at (48 ∷ 55 ∷ []) ≡ Number 0 1
+zero-in-front : decimal_at (48 ∷ 55 ∷ []) ≡ number 0 1
 unfolding decimal_at digits_from
 zero-in-front = refl
 
 -- the bytes before `0` and behind `9` end a number
-ended : decimal_at (57 ∷ 47 ∷ []) ≡ Number 9 1
+ended : decimal_at (57 ∷ 47 ∷ []) ≡ number 9 1
 unfolding decimal_at digits_from
 ended = refl
 
-ended-above : decimal_at (57 ∷ 58 ∷ []) ≡ Number 9 1
+ended-above : decimal_at (57 ∷ 58 ∷ []) ≡ number 9 1
 unfolding decimal_at digits_from
 ended-above = refl
 
 -- the largest number of 64 bits, and the one behind it
-largest : decimal_at (decimal 18446744073709551615) ≡ Number 18446744073709551615 20
+largest : decimal_at (decimal 18446744073709551615) ≡ number 18446744073709551615 20
 unfolding decimal_at digits_from digits
 largest = refl
 
-too_large : decimal_at (decimal 18446744073709551616) ≡ Nothing
+too_large : decimal_at (decimal 18446744073709551616) ≡ None
 unfolding decimal_at digits_from digits
 too_large = refl
 
@@ -66,38 +70,20 @@ starts-split (a ∷ t) (b ∷ s) e =
 pub starts-inside : (t s : List ℕ) → starts_with t s ≡ true → length t ≤ length s
 starts-inside t s e = omega (arith, ap length (starts-split t s e) ∙ length-append t (drop (length t) s))
 
--- the label is met at the places before i
-pub record Met (t s : List ℕ) (i : ℕ) : Type 0 where
-  pub inside : i ≤ length t
-  pub rest : starts_with t s ≡ starts_with (drop i t) (drop i s)
+-- as std's slices are compared
+pub starts-equal : (t s : List ℕ) → pointwise eqb (take (length t) s) t ≡ true → starts_with t s ≡ true
+starts-equal t s e =
+    let same : take (length t) s ≡ t = (bytes_decides (take (length t) s) t).0 e in
+    ap (starts_with t) (sym (take-append-drop (length t) s) ∙ ap (◌++ drop (length t) s) same) ∙ starts-same t (drop (length t) s)
 
-pub met-none : (t s : List ℕ) → Met t s 0
-met-none t s = record { inside = omega arith; rest = refl }
-
-module _ {t s : List ℕ} {i : ℕ} (w : Met t s i) where
-  met-here : i < length t → i < length s → starts_with t s ≡ (eqb (get_or t i 0) (get_or s i 0) && starts_with (drop (i + 1) t) (drop (i + 1) s))
-  unfolding starts_with
-  met-here h l = w.rest ∙ rw (add-one, drop-cons t i 0 h, drop-cons s i 0 l)
-
-  pub met_next : i < length t → i < length s → get_or t i 0 ≡ get_or s i 0 → Met t s (i + 1)
-  met_next h l e = record { inside = omega arith; rest = met-here h l ∙ rw (eq-eqb (get_or t i 0) (get_or s i 0) e) }
-
-  pub met-other : i < length t → i < length s → (get_or t i 0 ≡ get_or s i 0 → ⊥) → false ≡ starts_with t s
-  met-other h l e = sym (met-here h l ∙ rw (ne_eqb (get_or t i 0) (get_or s i 0) e))
-
-  pub met_all : length t ≤ i → true ≡ starts_with t s
-  unfolding starts_with
-  met_all h = sym (w.rest ∙ rw (drop_of_length-le t {i = i} h))
-
-pub starts-short : (t s : List ℕ) → length s < length t → false ≡ starts_with t s
-unfolding starts_with
-starts-short [] s h = absurd (omega arith)
-starts-short (a ∷ t) [] h = refl
-starts-short (a ∷ t) (b ∷ s) h = go (eqb a b) (starts-short t s (omega arith))
+pub starts-unequal : (t s : List ℕ) → pointwise eqb (take (length t) s) t ≡ false → starts_with t s ≡ false
+starts-unequal t s e = go (starts_with t s) refl
   where
-    go : (x : Bool) → false ≡ starts_with t s → false ≡ (x && starts_with t s)
-    go true e = e
-    go false e = refl
+    go : (r : Bool) → starts_with t s ≡ r → r ≡ false
+    go false w = refl
+    go true w =
+        let same : take (length t) s ≡ t = ap (take (length t)) (starts-split t s w) ∙ take_at t (drop (length t) s) (length t) refl in
+        absurd (true≢false (sym ((bytes_decides (take (length t) s) t).1 same) ∙ e))
 
 -- ---- a digit
 
@@ -117,7 +103,7 @@ decimal-more v d z l h =
 -- ---- the digits that stand behind a number
 
 -- the text goes on with no digit
-pub digits-end : (v k : ℕ) (s : List ℕ) → is_digit (get_or s 0 0) ≡ false → digits_from v k s ≡ Number v k
+pub digits-end : (v k : ℕ) (s : List ℕ) → is_digit (get_or s 0 0) ≡ false → digits_from v k s ≡ number v k
 unfolding digits_from
 digits-end v k [] e = refl
 digits-end v k (b ∷ s) e = rw e
@@ -127,59 +113,60 @@ pub digits-next : (v k b : ℕ) (s : List ℕ) → is_digit b ≡ true → 10 * 
 unfolding digits_from
 digits-next v k b s e h = rw (e, lt-ltb (10 * v + (b - 48)) 18446744073709551616 h)
 
-pub digits-over : (v k b : ℕ) (s : List ℕ) → is_digit b ≡ true → 18446744073709551616 ≤ 10 * v + (b - 48) → digits_from v k (b ∷ s) ≡ Nothing
+pub digits-over : (v k b : ℕ) (s : List ℕ) → is_digit b ≡ true → 18446744073709551616 ≤ 10 * v + (b - 48) → digits_from v k (b ∷ s) ≡ None
 unfolding digits_from
 digits-over v k b s e h = rw (e, le-ltb (10 * v + (b - 48)) 18446744073709551616 h)
 
--- the digits before a place are read
-pub record DigitsRead (s : List ℕ) (first value i : ℕ) : Type 0 where
-  pub inside : i ≤ length s
-  pub rest : digits_from first 1 (drop 1 s) ≡ digits_from value i (drop i s)
+-- i digits of the text are read
+pub record DigitsRead (s : List ℕ) (first value bytes i : ℕ) : Type 0 where
+  pub count : bytes ≡ i + 1
+  pub rest : digits_from first 1 s ≡ digits_from value bytes (drop i s)
 
-pub digits-first : (s : List ℕ) (first : ℕ) → 0 < length s → DigitsRead s first first 1
-digits-first s first h = record { inside = omega arith; rest = refl }
-
-module _ {s : List ℕ} {first value i : ℕ} (w : DigitsRead s first value i) where
-  digits-here : i < length s → digits_from first 1 (drop 1 s) ≡ digits_from value i (get_or s i 0 ∷ drop (i + 1) s)
+module _ {s : List ℕ} {first value bytes i : ℕ} (w : DigitsRead s first value bytes i) where
+  digits-here : i < length s → digits_from first 1 s ≡ digits_from value bytes (get_or s i 0 ∷ drop (i + 1) s)
   digits-here h = w.rest ∙ rw (add-one, drop-cons s i 0 h)
 
-  pub digits-one-more : (d : ℕ) → i < length s → is_digit (get_or s i 0) ≡ true → d ≡ get_or s i 0 - 48 → 10 * value + d < 18446744073709551616
-      → DigitsRead s first (10 * value + d) (i + 1)
-  digits-one-more d h e q l =
-      rw q (record { inside = omega arith; rest = digits-here h ∙ digits-next value i (get_or s i 0) (drop (i + 1) s) e (omega arith) })
+  pub digits-one-more : (v : ℕ) → i < length s → is_digit (get_or s i 0) ≡ true → 10 * value + (get_or s i 0 - 48) < 18446744073709551616
+      → v ≡ 10 * value + (get_or s i 0 - 48) → DigitsRead s first v (bytes + 1) (i + 1)
+  digits-one-more v h d room e =
+      rw e
+      (record {
+        count = omega (arith, w.count);
+        rest = digits-here h ∙ digits-next value bytes (get_or s i 0) (drop (i + 1) s) d room;
+      })
 
-  pub digits-no-room : (d : ℕ) → i < length s → is_digit (get_or s i 0) ≡ true → d ≡ get_or s i 0 - 48 → 18446744073709551616 ≤ 10 * value + d
-      → Nothing ≡ digits_from first 1 (drop 1 s)
-  digits-no-room d h e q l = sym (digits-here h ∙ digits-over value i (get_or s i 0) (drop (i + 1) s) e (omega arith))
+  pub digits-no-room : i < length s → is_digit (get_or s i 0) ≡ true → 18446744073709551616 ≤ 10 * value + (get_or s i 0 - 48)
+      → None ≡ digits_from first 1 s
+  digits-no-room h d over =
+      sym (digits-here h ∙ digits-over value bytes (get_or s i 0) (drop (i + 1) s) d over)
 
-  pub digits-before : i < length s → is_digit (get_or s i 0) ≡ false → Number value i ≡ digits_from first 1 (drop 1 s)
-  digits-before h e = sym (digits-here h ∙ digits-end value i (get_or s i 0 ∷ drop (i + 1) s) e)
+  pub digits-before : i < length s → (is_digit (get_or s i 0) ≡ true → ⊥) → number value bytes ≡ digits_from first 1 s
+  digits-before h e = sym (digits-here h ∙ digits-end value bytes (get_or s i 0 ∷ drop (i + 1) s) (false_from_ne_true (is_digit (get_or s i 0)) e))
 
-  pub digits-all : length s ≤ i → Number value i ≡ digits_from first 1 (drop 1 s)
-  digits-all h = sym (w.rest ∙ rw (drop_of_length-le s {i = i} h) (digits-end value i [] refl))
+  pub digits-all : length s ≤ i → number value bytes ≡ digits_from first 1 s
+  digits-all h = sym (w.rest ∙ rw (drop_of_length-le s {i = i} h) (digits-end value bytes [] refl))
 
 -- ---- the first byte
 
-pub decimal-none : (s : List ℕ) → length s ≡ 0 → Nothing ≡ decimal_at s
+pub decimal-none : (s : List ℕ) → length s ≡ 0 → None ≡ decimal_at s
 unfolding decimal_at
 decimal-none [] e = refl
 decimal-none (b ∷ s) e = absurd (omega arith)
 
-pub decimal-zero : (s : List ℕ) → 0 < length s → get_or s 0 0 ≡ 48 → Number 0 1 ≡ decimal_at s
+-- the text is a byte and others behind it
+pub decimal-zero : (b : ℕ) (t : List ℕ) → b ≡ 48 → decimal_at (b ∷ t) ≡ number 0 1
 unfolding decimal_at
-decimal-zero [] h e = absurd (omega arith)
-decimal-zero (b ∷ s) h e = rw e
+decimal-zero b t e = rw e
 
-pub decimal-other : (s : List ℕ) → 0 < length s → (get_or s 0 0 ≡ 48 → ⊥) → is_digit (get_or s 0 0) ≡ false → Nothing ≡ decimal_at s
+pub decimal-other : (b : ℕ) (t : List ℕ) → (b ≡ 48 → ⊥) → (is_digit b ≡ true → ⊥) → decimal_at (b ∷ t) ≡ None
 unfolding decimal_at
-decimal-other [] h z e = absurd (omega arith)
-decimal-other (b ∷ s) h z e = rw (ne_eqb b 48 z, e)
+decimal-other b t z e = rw (ne_eqb b 48 z, false_from_ne_true (is_digit b) e)
 
-pub decimal-first : (s : List ℕ) (d : ℕ) → 0 < length s → (get_or s 0 0 ≡ 48 → ⊥) → is_digit (get_or s 0 0) ≡ true → d ≡ get_or s 0 0 - 48
-    → digits_from d 1 (drop 1 s) ≡ decimal_at s
+pub decimal-first : (b : ℕ) (t : List ℕ) (d : ℕ) → (b ≡ 48 → ⊥) → is_digit b ≡ true → d ≡ b - 48 → decimal_at (b ∷ t) ≡ digits_from d 1 t
 unfolding decimal_at
-decimal-first [] d h z e q = absurd (omega arith)
-decimal-first (b ∷ s) d h z e q = rw (q, ne_eqb b 48 z, e)
+decimal-first b t d z e q = rw (q, ne_eqb b 48 z, e)
+
+pub ruleset by_first_byte = (decimal-zero, decimal-other, decimal-first)
 
 -- ---- what was written is read
 
@@ -206,7 +193,7 @@ decimal-digits (suc k) n s l z h = go (λ m s. decimal-digits k m s) (ltb n 10) 
         ∙ digits-next (n / 10) (length (decimal (n / 10))) (48 + d) s (digit-within (48 + d) (omega arith) (omega arith)) (omega arith)
         ∙ rw last))
 
-pub decimal-read : (n : ℕ) (s : List ℕ) → n < 18446744073709551616 → is_digit (get_or s 0 0) ≡ false → decimal_at (decimal n ++ s) ≡ Number n (length (decimal n))
+pub decimal-read : (n : ℕ) (s : List ℕ) → n < 18446744073709551616 → is_digit (get_or s 0 0) ≡ false → decimal_at (decimal n ++ s) ≡ number n (length (decimal n))
 unfolding decimal_at digits
 decimal-read zero s h e = refl
 decimal-read (suc n) s h e = decimal-digits (suc n) (suc n) s (omega arith) (λ z. omega arith) h ∙ digits-end (suc n) (length (decimal (suc n))) s e
@@ -226,19 +213,20 @@ reads-number : (s : List ℕ) (v k : ℕ) → v < 18446744073709551616 → k ≡
 reads-number s v k h e = record { small = h; digits = e; text = ap (decimal v ++◌) (sym (drop_at (decimal v) s k (sym e))) }
 
 -- no digit more
-reads_end : (s : List ℕ) (v k n m : ℕ) → v < 18446744073709551616 → k ≡ length (decimal v) → Number v k ≡ Number n m → Reads (decimal v ++ s) n m
+reads_end : (s : List ℕ) (v k n m : ℕ) → v < 18446744073709551616 → k ≡ length (decimal v) → number v k ≡ number n m → Reads (decimal v ++ s) n m
 reads_end s v k n m h e f =
-    let number : v ≡ n = cc in
-    let place : k ≡ m = cc in
-    subst (λ x. Reads (decimal v ++ s) x m) number (subst (λ x. Reads (decimal v ++ s) v x) place (reads-number s v k h e))
+    let same : ◌≡◌ {A = Number} (record { value = v; bytes = k }) (record { value = n; bytes = m }) = cc in
+    let value : v ≡ n = ap (λ (x : Number). x.value) same in
+    let place : k ≡ m = ap (λ (x : Number). x.bytes) same in
+    subst (λ x. Reads (decimal v ++ s) x m) value (subst (λ x. Reads (decimal v ++ s) v x) place (reads-number s v k h e))
 
-reads-digits : (s : List ℕ) (v k n m : ℕ) → (v ≡ 0 → ⊥) → v < 18446744073709551616 → k ≡ length (decimal v) → digits_from v k s ≡ Number n m → Reads (decimal v ++ s) n m
+reads-digits : (s : List ℕ) (v k n m : ℕ) → (v ≡ 0 → ⊥) → v < 18446744073709551616 → k ≡ length (decimal v) → digits_from v k s ≡ number n m → Reads (decimal v ++ s) n m
 unfolding digits_from
 reads-digits [] v k n m z h e f = reads_end [] v k n m h e f
 reads-digits (b ∷ s) v k n m z h e f = go (reads-digits s (10 * v + (b - 48)) (k + 1) n m) (is_digit b) refl (ltb (10 * v + (b - 48)) 18446744073709551616) refl
   where
     go : ((10 * v + (b - 48) ≡ 0 → ⊥) → 10 * v + (b - 48) < 18446744073709551616 → k + 1 ≡ length (decimal (10 * v + (b - 48)))
-        → digits_from (10 * v + (b - 48)) (k + 1) s ≡ Number n m → Reads (decimal (10 * v + (b - 48)) ++ s) n m)
+        → digits_from (10 * v + (b - 48)) (k + 1) s ≡ number n m → Reads (decimal (10 * v + (b - 48)) ++ s) n m)
         → (t : Bool) → is_digit b ≡ t → (u : Bool) → ltb (10 * v + (b - 48)) 18446744073709551616 ≡ u → Reads (decimal v ++ b ∷ s) n m
     go r false d u g = reads_end (b ∷ s) v k n m h e (sym (digits-end v k (b ∷ s) d) ∙ f)
     go r true d false g =
@@ -253,7 +241,7 @@ reads-digits (b ∷ s) v k n m z h e f = go (reads-digits s (10 * v + (b - 48)) 
         subst (λ x. Reads x n m) (ap (◌++ s) more ∙ append_snoc (decimal v) b s)
         (r (λ x. omega arith) small (omega (arith, ap length more ∙ length-append (decimal v) (b ∷ []))) (sym (digits-next v k b s d small) ∙ f))
 
-pub read-decimal : (s : List ℕ) (n k : ℕ) → decimal_at s ≡ Number n k → Reads s n k
+pub read-decimal : (s : List ℕ) (n k : ℕ) → decimal_at s ≡ number n k → Reads s n k
 unfolding decimal_at digits
 read-decimal [] n k f = let z : ◌≡◌ {A = ℕ} 0 1 = cc in absurd (omega arith)
 read-decimal (b ∷ s) n k f = go (eqb b 48) refl (is_digit b) refl

@@ -1,19 +1,13 @@
 -- `decimals::put_decimal` meets its contract. Assumes nothing.
 use native.Mathlib.Omega.{arith}
-use Rattle.decimals.proofs.Decimals.{length_last}
-use Rattle.decimals.proofs.Written.{put-digits}
+use Rattle.decimals.proofs.Written.{written_none, written_next, written_all}
 use Rattle.decimals.proofs.put_decimal.Goals as goal
 
-pub overflow_sub-last : goal.overflow_sub-last
-overflow_sub-last c = omega (arith, length_last c.args.n (omega arith))
+pub loop-place-init : goal.loop-place-init
+loop-place-init c = written_none c.args.out.now c.args.at c.args.n _ (omega arith) (omega arith)
 
-pub put_leading-requires : goal.put_leading-requires
-put_leading-requires c = omega (arith, length_last c.args.n (omega arith))
-
-pub put_byte-requires : goal.put_byte-requires
-put_byte-requires c = omega (arith, length_last c.args.n (omega arith))
+pub loop-place-preserved : goal.loop-place-preserved
+loop-place-preserved c = written_next c.loop-place.invariant _ (omega arith) (omega arith)
 
 pub returns : goal.returns
-returns c =
-    let a = c.args in
-    put-digits _ _ _ a.at a.n _ _ (omega arith) c.digit_count.ensures c.put_leading.ensures c.put_byte.ensures
+returns c = written_all c.loop-place.invariant _ (omega arith) (omega arith)
