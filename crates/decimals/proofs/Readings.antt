@@ -212,13 +212,16 @@ reads-inside {s} {n} {k} r = omega (arith, r.digits, ap length r.text ∙ length
 reads-number : (s : List ℕ) (v k : ℕ) → v < 18446744073709551616 → k ≡ length (decimal v) → Reads (decimal v ++ s) v k
 reads-number s v k h e = record { small = h; digits = e; text = ap (decimal v ++◌) (sym (drop_at (decimal v) s k (sym e))) }
 
+pub number-parts : {v k n m : ℕ} → number v k ≡ number n m → (v ≡ n) × (k ≡ m)
+number-parts {v} {k} {n} {m} e =
+    let same : ◌≡◌ {A = Number} (record { value = v; bytes = k }) (record { value = n; bytes = m }) = cc in
+    (ap (λ (x : Number). x.value) same, ap (λ (x : Number). x.bytes) same)
+
 -- no digit more
 reads_end : (s : List ℕ) (v k n m : ℕ) → v < 18446744073709551616 → k ≡ length (decimal v) → number v k ≡ number n m → Reads (decimal v ++ s) n m
 reads_end s v k n m h e f =
-    let same : ◌≡◌ {A = Number} (record { value = v; bytes = k }) (record { value = n; bytes = m }) = cc in
-    let value : v ≡ n = ap (λ (x : Number). x.value) same in
-    let place : k ≡ m = ap (λ (x : Number). x.bytes) same in
-    subst (λ x. Reads (decimal v ++ s) x m) value (subst (λ x. Reads (decimal v ++ s) v x) place (reads-number s v k h e))
+    let same = number-parts f in
+    subst (λ x. Reads (decimal v ++ s) x m) same.0 (subst (λ x. Reads (decimal v ++ s) v x) same.1 (reads-number s v k h e))
 
 reads-digits : (s : List ℕ) (v k n m : ℕ) → (v ≡ 0 → ⊥) → v < 18446744073709551616 → k ≡ length (decimal v) → digits_from v k s ≡ number n m → Reads (decimal v ++ s) n m
 unfolding digits_from

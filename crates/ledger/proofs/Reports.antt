@@ -3,7 +3,6 @@ use mathlib.Core.Path.{◌≡◌, refl, sym, ap, subst, ◌∙◌}
 use mathlib.Core.Bool.{Bool, true, false, cond, not}
 use mathlib.Core.Logic.{◌⊎◌, inl, inr}
 use mathlib.Core.List.{List, [], ◌∷◌, ◌++◌, map, map-append, append_assoc}
-use mathlib.Core.Option.{Option, none, some}
 use Prim.Native.Nat.{ℕ, zero, suc, ◌+◌, ◌*◌, ◌<◌, ◌≤◌}
 use native.Mathlib.Numerals.{add-one}
 use native.Mathlib.Omega.{arith}
@@ -16,11 +15,11 @@ use Rattle.bits.specs.Refusal.{test_numbers}
 use Rattle.bits.proofs.Layouts.{sum-append}
 use Rattle.bits.proofs.Refusal.{refusal-here, refusal-later, none-refusal}
 use Rattle.decimals.specs.Decimal.{digits, decimal}
-use Rattle.decimals.specs.Reading.{starts_with, digits_from, decimal_at}
-use Rattle.decimals.specs.declared.Found.{Found}
-use Rattle.decimals.specs.declared.Found.TheVariants.{Number, Nothing}
+use Rattle.decimals.specs.Reading.{number, starts_with, digits_from, decimal_at}
+use Rattle.decimals.specs.declared.Number.{Number}
+use Rattle.std.specs.Prelude.{Option, Some, None}
 use Rattle.decimals.proofs.Decimals.{limit, length_most, length_last}
-use Rattle.decimals.proofs.Readings.{Reads, starts-same, starts-split, decimal-read, read-decimal}
+use Rattle.decimals.proofs.Readings.{Reads, number-parts, starts-same, starts-split, decimal-read, read-decimal}
 use Rattle.ledger.specs.Counting.{possible}
 use Rattle.ledger.specs.Report.{labels, numbers_of, Within64, labelled_line, labelled_lines, ledger_report, length_number, length_of, print_tests, print_number, print_of, line_ended, line_at, in_front, line_then, numbers_in, ledger_from, not_report, parsed_from, parse_of}
 use Rattle.ledger.specs.declared.Ledger.{Ledger}
@@ -33,16 +32,16 @@ one_line : labelled_lines ((97 ∷ 32 ∷ []) ∷ []) (12 ∷ []) ≡ 97 ∷ 32 
 unfolding labelled_lines digits
 one_line = refl
 
-line_read : numbers_in ((97 ∷ 32 ∷ []) ∷ []) (97 ∷ 32 ∷ 49 ∷ 50 ∷ 10 ∷ []) ≡ some (12 ∷ [])
+line_read : numbers_in ((97 ∷ 32 ∷ []) ∷ []) (97 ∷ 32 ∷ 49 ∷ 50 ∷ 10 ∷ []) ≡ Some (12 ∷ [])
 unfolding numbers_in line_at line_ended starts_with digits_from decimal_at
 line_read = refl
 
 -- no line feed at its end, and a line feed more
-line-open : numbers_in ((97 ∷ 32 ∷ []) ∷ []) (97 ∷ 32 ∷ 49 ∷ 50 ∷ []) ≡ none
+line-open : numbers_in ((97 ∷ 32 ∷ []) ∷ []) (97 ∷ 32 ∷ 49 ∷ 50 ∷ []) ≡ None
 unfolding numbers_in line_at line_ended starts_with digits_from decimal_at
 line-open = refl
 
-line-behind : numbers_in ((97 ∷ 32 ∷ []) ∷ []) (97 ∷ 32 ∷ 49 ∷ 50 ∷ 10 ∷ 10 ∷ []) ≡ none
+line-behind : numbers_in ((97 ∷ 32 ∷ []) ∷ []) (97 ∷ 32 ∷ 49 ∷ 50 ∷ 10 ∷ 10 ∷ []) ≡ None
 unfolding numbers_in line_at line_ended starts_with digits_from decimal_at
 line-behind = refl
 
@@ -61,7 +60,7 @@ unfolding ledger_from
 taken-in-order = refl
 
 -- one frame seen, and none refused or accepted
-impossible-number : (parsed_from (some (1 ∷ []))).number ≡ 18
+impossible-number : (parsed_from (Some (1 ∷ []))).number ≡ 18
 unfolding ledger_from possible sum
 impossible-number = refl
 
@@ -78,7 +77,7 @@ pub length-line : (label : List ℕ) (n : ℕ) → length (labelled_line label n
 length-line label n = omega (arith, length-append label (decimal n ++ 10 ∷ []), length-append (decimal n) (10 ∷ []))
 
 -- a label, a number and a line feed
-pub line-at : (label s : List ℕ) (n : ℕ) → n < 18446744073709551616 → line_at label (labelled_line label n ++ s) ≡ Number n (length (labelled_line label n))
+pub line-at : (label s : List ℕ) (n : ℕ) → n < 18446744073709551616 → line_at label (labelled_line label n ++ s) ≡ number n (length (labelled_line label n))
 unfolding line_at line_ended
 line-at label s n h =
     let m = length (decimal n) in
@@ -116,26 +115,25 @@ line-ended label s v m a r feed =
     go true e = ltb-true (length label + m) (length s) e
     go false e = absurd (omega (arith, get_or-eq_default s 0 {n = length label + m} (ltb-false (length label + m) (length s) e)))
 
-pub line-is : (label s : List ℕ) (n k : ℕ) → line_at label s ≡ Number n k → Line label s n k
+pub line-is : (label s : List ℕ) (n k : ℕ) → line_at label s ≡ number n k → Line label s n k
 unfolding line_at line_ended
 line-is label s n k e = go (starts_with label s) refl (decimal_at (drop (length label) s)) refl
   where
     ended : (v m : ℕ) → starts_with label s ≡ true → Reads (drop (length label) s) v m → (t : Bool) → eqb (get_or s (length label + m) 0) 10 ≡ t
-        → cond t (Number v (length label + m + 1)) Nothing ≡ Number n k → Line label s n k
+        → cond t (number v (length label + m + 1)) None ≡ number n k → Line label s n k
     ended v m a r true f g =
-        let number : v ≡ n = cc in
-        let place : length label + m + 1 ≡ k = cc in
-        subst (λ x. Line label s x k) number (subst (λ x. Line label s v x) place (line-ended label s v m a r (eqb-true _ 10 f)))
+        let same = number-parts g in
+        subst (λ x. Line label s x k) same.0 (subst (λ x. Line label s v x) same.1 (line-ended label s v m a r (eqb-true _ 10 f)))
     ended v m a r false f g = let z : ◌≡◌ {A = ℕ} 0 1 = cc in absurd (omega arith)
 
-    go : (t : Bool) → starts_with label s ≡ t → (f : Found) → decimal_at (drop (length label) s) ≡ f → Line label s n k
+    go : (t : Bool) → starts_with label s ≡ t → (f : Option Number) → decimal_at (drop (length label) s) ≡ f → Line label s n k
     go false a f d = let g = rw a at e in let z : ◌≡◌ {A = ℕ} 0 1 = cc in absurd (omega arith)
-    go true a Nothing d = let g = rw (a, d) at e in let z : ◌≡◌ {A = ℕ} 0 1 = cc in absurd (omega arith)
-    go true a (Number v m) d = ended v m a (read-decimal (drop (length label) s) v m d) (eqb (get_or s (length label + m) 0) 10) refl (rw (a, d) at e)
+    go true a None d = let g = rw (a, d) at e in let z : ◌≡◌ {A = ℕ} 0 1 = cc in absurd (omega arith)
+    go true a (Some f) d = ended f.value f.bytes a (read-decimal (drop (length label) s) f.value f.bytes d) (eqb (get_or s (length label + f.bytes) 0) 10) refl (rw (a, d) at e)
 
 -- ---- any labels and numbers
 
-pub numbers-in : (ls : List (List ℕ)) (ns : List ℕ) → length ns ≡ length ls → Within64 ns → numbers_in ls (labelled_lines ls ns) ≡ some ns
+pub numbers-in : (ls : List (List ℕ)) (ns : List ℕ) → length ns ≡ length ls → Within64 ns → numbers_in ls (labelled_lines ls ns) ≡ Some ns
 unfolding numbers_in labelled_lines
 numbers-in [] [] e w = refl
 numbers-in [] (n ∷ ns) e w = absurd (omega arith)
@@ -161,7 +159,7 @@ lines_more l ls s ns n k h t =
     go zero = h.small
     go (suc i) = t.words i
 
-pub lines_are : (ls : List (List ℕ)) (s ns : List ℕ) → numbers_in ls s ≡ some ns → Lines ls s ns
+pub lines_are : (ls : List (List ℕ)) (s ns : List ℕ) → numbers_in ls s ≡ Some ns → Lines ls s ns
 unfolding numbers_in labelled_lines
 lines_are [] [] ns e =
     let same : [] ≡ ns = cc in
@@ -169,16 +167,16 @@ lines_are [] [] ns e =
 lines_are [] (b ∷ s) ns e = let z : ◌≡◌ {A = ℕ} 0 1 = cc in absurd (omega arith)
 lines_are (l ∷ ls) s ns e = go (λ t ms. lines_are ls t ms) (line_at l s) refl
   where
-    behind : (n k : ℕ) → ((t ms : List ℕ) → numbers_in ls t ≡ some ms → Lines ls t ms) → Line l s n k
-        → (o : Option (List ℕ)) → numbers_in ls (drop k s) ≡ o → in_front n o ≡ some ns → Lines (l ∷ ls) s ns
-    behind n k r h none d f = let z : ◌≡◌ {A = ℕ} 0 1 = cc in absurd (omega arith)
-    behind n k r h (some ms) d f =
+    behind : (n k : ℕ) → ((t ms : List ℕ) → numbers_in ls t ≡ Some ms → Lines ls t ms) → Line l s n k
+        → (o : Option (List ℕ)) → numbers_in ls (drop k s) ≡ o → in_front n o ≡ Some ns → Lines (l ∷ ls) s ns
+    behind n k r h None d f = let z : ◌≡◌ {A = ℕ} 0 1 = cc in absurd (omega arith)
+    behind n k r h (Some ms) d f =
         let same : n ∷ ms ≡ ns = cc in
         subst (λ x. Lines (l ∷ ls) s x) same (lines_more l ls s ms n k h (r (drop k s) ms d))
 
-    go : ((t ms : List ℕ) → numbers_in ls t ≡ some ms → Lines ls t ms) → (f : Found) → line_at l s ≡ f → Lines (l ∷ ls) s ns
-    go r Nothing d = let g = rw d at e in let z : ◌≡◌ {A = ℕ} 0 1 = cc in absurd (omega arith)
-    go r (Number n k) d = behind n k r (line-is l s n k d) (numbers_in ls (drop k s)) refl (rw d at e)
+    go : ((t ms : List ℕ) → numbers_in ls t ≡ Some ms → Lines ls t ms) → (f : Option Number) → line_at l s ≡ f → Lines (l ∷ ls) s ns
+    go r None d = let g = rw d at e in let z : ◌≡◌ {A = ℕ} 0 1 = cc in absurd (omega arith)
+    go r (Some f) d = behind f.value f.bytes r (line-is l s f.value f.bytes d) (numbers_in ls (drop f.bytes s)) refl (rw d at e)
 
 -- ---- a ledger and its 12 numbers
 
@@ -237,7 +235,7 @@ possible-words l p i =
 
 -- ---- printed and read
 
-pub report-numbers : (l : Ledger) → length l.refused ≡ 9 → Within64 (numbers_of l) → numbers_in labels (ledger_report l) ≡ some (numbers_of l)
+pub report-numbers : (l : Ledger) → length l.refused ≡ 9 → Within64 (numbers_of l) → numbers_in labels (ledger_report l) ≡ Some (numbers_of l)
 unfolding ledger_report
 report-numbers l nine w = numbers-in labels (numbers_of l) (twelve-numbers l nine ∙ sym twelve-labels) w
 
@@ -269,8 +267,8 @@ settle s = go (numbers_in labels s) refl
         report (ledger_from ns) (e, (nine-refused ns twelve, ap (labelled_lines labels) (numbers-ledger ns twelve) ∙ h.text))
 
     go : (o : Option (List ℕ)) → numbers_in labels s ≡ o → Settled s (parsed_from o)
-    go none e = other
-    go (some ns) e = judged ns (lines_are labels s ns e) (possible (ledger_from ns)) refl
+    go None e = other
+    go (Some ns) e = judged ns (lines_are labels s ns e) (possible (ledger_from ns)) refl
 
 -- "refusal 18 exactly when the bytes are not a report of some possible ledger, else that ledger"
 pub print-parse : (s : List ℕ) → (parse_of s).number ≡ 0 → ReportOf s (parse_of s).ledger
@@ -290,7 +288,7 @@ settled s = go (settle s)
 -- two ledgers have the same report only if they are the same
 pub apart : (l m : Ledger) → length l.refused ≡ 9 → length m.refused ≡ 9 → Within64 (numbers_of l) → Within64 (numbers_of m) → ledger_report l ≡ ledger_report m → l ≡ m
 apart l m nine-l nine-m w v e =
-    let same : some (numbers_of l) ≡ some (numbers_of m) = sym (report-numbers l nine-l w) ∙ ap (numbers_in labels) e ∙ report-numbers m nine-m v in
+    let same : Some (numbers_of l) ≡ Some (numbers_of m) = sym (report-numbers l nine-l w) ∙ ap (numbers_in labels) e ∙ report-numbers m nine-m v in
     let numbers : numbers_of l ≡ numbers_of m = cc in
     sym (ledger-numbers l nine-l) ∙ ap ledger_from numbers ∙ ledger-numbers m nine-m
 

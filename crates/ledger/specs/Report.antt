@@ -1,11 +1,9 @@
 -- The printed report of a ledger, and its reader (document 02, l). Assumes nothing.
-use Rattle.std.specs.Prelude.{Bool, cond, not, List, [], ◌∷◌, ◌++◌, map, ℕ, ◌+◌, ◌<◌, eqb, length, take, drop, get_or}
-use Rattle.std.proofs.Math.Option.{Option, none, some}
+use Rattle.std.specs.Prelude.{Bool, cond, not, List, [], ◌∷◌, ◌++◌, map, ℕ, ◌+◌, ◌<◌, eqb, length, take, drop, get_or, Option, Some, None}
 use Rattle.bits.specs.Refusal.{first_refusal}
 use Rattle.decimals.specs.Decimal.{decimal}
-use Rattle.decimals.specs.Reading.{starts_with, decimal_at}
-use Rattle.decimals.specs.declared.Found.{Found}
-use Rattle.decimals.specs.declared.Found.TheVariants.{Number, Nothing}
+use Rattle.decimals.specs.Reading.{starts_with, number, decimal_at}
+use Rattle.decimals.specs.declared.Number.{Number}
 use Rattle.ledger.specs.Counting.{refusals, possible, fresh}
 use Rattle.ledger.specs.declared.Ledger.{Ledger}
 use Rattle.ledger.specs.declared.LedgerAnswer.{LedgerAnswer}
@@ -66,28 +64,28 @@ print_of l out = cond (eqb (print_number l (length out)) 0) (ledger_report l) ou
 -- ---- reading
 
 -- behind a label of k bytes, the number that was found and a line feed: the number, and how many bytes the line has
-unfoldable pub line_ended : (k : ℕ) → List ℕ → Found → Found
-line_ended k s Nothing = Nothing
-line_ended k s (Number n m) = cond (eqb (get_or s (k + m) 0) 10) (Number n (k + m + 1)) Nothing
+unfoldable pub line_ended : (k : ℕ) → List ℕ → Option Number → Option Number
+line_ended k s None = None
+line_ended k s (Some n) = cond (eqb (get_or s (k + n.bytes) 0) 10) (number n.value (k + n.bytes + 1)) None
 
 -- the number of the line that s begins with, if it is one with this label
-unfoldable pub line_at : (label s : List ℕ) → Found
-line_at label s = cond (starts_with label s) (line_ended (length label) s (decimal_at (drop (length label) s))) Nothing
+unfoldable pub line_at : (label s : List ℕ) → Option Number
+line_at label s = cond (starts_with label s) (line_ended (length label) s (decimal_at (drop (length label) s))) None
 
 -- a number in front
 abbrev pub in_front : ℕ → Option (List ℕ) → Option (List ℕ)
-in_front n none = none
-in_front n (some ns) = some (n ∷ ns)
+in_front n None = None
+in_front n (Some ns) = Some (n ∷ ns)
 
 -- the number of a line, and those of what stands behind its k bytes
-abbrev pub line_then : Found → (ℕ → Option (List ℕ)) → Option (List ℕ)
-line_then Nothing behind = none
-line_then (Number n k) behind = in_front n (behind k)
+abbrev pub line_then : Option Number → (ℕ → Option (List ℕ)) → Option (List ℕ)
+line_then None behind = None
+line_then (Some n) behind = in_front n.value (behind n.bytes)
 
 -- the numbers of a text that is a line for each label and nothing else
 unfoldable pub numbers_in : List (List ℕ) → List ℕ → Option (List ℕ)
-numbers_in [] [] = some []
-numbers_in [] (b ∷ s) = none
+numbers_in [] [] = Some []
+numbers_in [] (b ∷ s) = None
 numbers_in (label ∷ ls) s = line_then (line_at label s) (λ k. numbers_in ls (drop k s))
 
 -- the ledger of 12 numbers
@@ -99,8 +97,8 @@ abbrev pub not_report : LedgerAnswer
 not_report = record { number = 18; ledger = fresh }
 
 abbrev pub parsed_from : Option (List ℕ) → LedgerAnswer
-parsed_from none = not_report
-parsed_from (some ns) = cond (possible (ledger_from ns)) (record { number = 0; ledger = ledger_from ns }) not_report
+parsed_from None = not_report
+parsed_from (Some ns) = cond (possible (ledger_from ns)) (record { number = 0; ledger = ledger_from ns }) not_report
 
 -- what the reader of a report answers
 unfoldable pub parse_of : List ℕ → LedgerAnswer

@@ -1,35 +1,30 @@
 // The reader of a printed report, strictly from the front: a line for each label, and nothing behind the last.
 #![tactic(auto)]
 
-ghost use Rattle.std.specs.Prelude.{◌≡◌, cond, [], ◌<◌, length, get_or};
-ghost use Rattle.std.proofs.Math.Option.{none, some};
+ghost use Rattle.std.specs.Prelude.{◌≡◌, [], ◌<◌, get_or};
 ghost use Rattle.ledger.specs.Report.{labels, line_at, numbers_in, not_report, parse_of};
 ghost use Rattle.ledger_labels.specs.Labels.{label_text};
 
-use decimals::Found;
+use decimals::Number;
 use ledger::{Ledger, LedgerAnswer};
 
 // The number of the line that the text begins with, if it is one with this label, and how many bytes the line has.
-fn read_labelled(label: &[u8], text: &[u8]) -> Found
+#[tactic(auto, using(crate::proofs::Parsed::by_line))]
+fn read_labelled(label: &[u8], text: &[u8]) -> Option<Number>
     ensures { result ≡ line_at label.now text.now }
 {
-    if !decimals::starts_with(label, text) {
-        return Found::Nothing;
-    }
-    let from = label.len();
-    let found = decimals::read_decimal(&text[from..]);
-    let Found::Number(number, digits) = found else {
-        return Found::Nothing;
+    let behind = text.strip_prefix(label)?;
+    let number = decimals::read_decimal(behind)?;
+    let is_ended = *behind.get(number.bytes)? == b'\n';
+    let line = Number {
+        value: number.value,
+        bytes: label.len() + number.bytes + 1,
     };
-    let end = from + digits;
-    if end < text.len() && text[end] == 10 {
-        return Found::Number(number, end + 1);
-    }
-    Found::Nothing
+    is_ended.then_some(line)
 }
 
 // The same with label i of the labels' text.
-fn read_line(all: &[u8], i: usize, text: &[u8]) -> Found
+fn read_line(all: &[u8], i: usize, text: &[u8]) -> Option<Number>
     requires all_value { all.now ≡ label_text }
     requires i_bound { i < 12 }
     ensures { result ≡ line_at (get_or labels i []) text.now }
@@ -39,24 +34,19 @@ fn read_line(all: &[u8], i: usize, text: &[u8]) -> Found
     read_labelled(&all[start..end], text)
 }
 
-// The numbers of the 12 lines, and whether the text is these lines and nothing else.
-fn read_numbers(text: &[u8], numbers: &mut [u64]) -> bool
-    requires { length numbers.old ≡ 12 }
-    ensures { numbers_in labels text.now ≡ cond result (some numbers.new) none }
+// The numbers of the 12 lines, if the text is these lines and nothing else.
+fn read_numbers(text: &[u8]) -> Option<[u64; 12]>
+    ensures { result ≡ numbers_in labels text.now }
 {
     let all = ledger_labels::text();
-    let mut at = 0;
-    let mut i = 0;
-    while i < 12 {
-        let found = read_line(&all, i, &text[at..]);
-        let Found::Number(number, bytes) = found else {
-            return false;
-        };
-        numbers[i] = number;
-        at += bytes;
-        i += 1;
+    let mut numbers = [0; 12];
+    let mut rest = text;
+    for i in 0..12 {
+        let line = read_line(&all, i, rest)?;
+        numbers[i] = line.value;
+        rest = &rest[line.bytes..];
     }
-    at == text.len()
+    rest.is_empty().then_some(numbers)
 }
 
 // The answer to what is no report of a possible ledger.
@@ -73,10 +63,9 @@ fn not_report() -> LedgerAnswer
 pub fn parse(text: &[u8]) -> LedgerAnswer
     ensures { result ≡ parse_of text.now }
 {
-    let mut numbers = [0; 12];
-    if !read_numbers(text, &mut numbers) {
+    let Some(numbers) = read_numbers(text) else {
         return not_report();
-    }
+    };
     let ledger = ledger_numbers::ledger_from(&numbers);
     if !ledger_numbers::possible(ledger) {
         return not_report();

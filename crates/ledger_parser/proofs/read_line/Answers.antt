@@ -9,7 +9,6 @@ use Rattle.ledger_labels.proofs.Parts.{length-text, label-order, label_inside, l
 use Rattle.ledger_parser.proofs.read_line.Goals as goal
 use Rattle.ledger_parser.proofs.read_line.Goals.{After-start-end}
 
--- `ledger_parser::read_line` meets its contract. Assumes nothing.
 -- the label stands within the labels' text
 bounds : (c : After-start-end) → (c.start-start.result ≤ c.start-end.result) × (c.start-end.result ≤ length c.args.all.now)
 bounds c =

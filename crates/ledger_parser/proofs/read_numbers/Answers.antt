@@ -1,47 +1,28 @@
 -- `ledger_parser::read_numbers` meets its contract. Assumes nothing.
-use mathlib.Core.Path.{sym, ◌∙◌}
-use Prim.Native.Nat.{◌+◌, ◌-◌}
-use native.Mathlib.Omega.{arith}
-use lib.ListN.{set, length-set}
-use Rattle.ledger.specs.Report.{labels}
+use Rattle.std.proofs.Common.{ℕ, ◌+◌, List, set, sym, subst, ◌∙◌, arith, rules}
+use Rattle.std.proofs.lemmas.List.{take_rest}
 use Rattle.ledger.proofs.Reports.{twelve-labels}
-use Rattle.ledger_parser.proofs.Parsed.{Numbered, numbered-none, numbered-stop, numbered_next, numbered-all}
+use Rattle.ledger.specs.Report.{labels}
+use Rattle.ledger_parser.proofs.Parsed.{Numbered, numbered-none, numbered-stop, line-inside, numbered_next, numbered-all}
 use Rattle.ledger_parser.proofs.read_numbers.Goals as goal
-use Rattle.ledger_parser.proofs.read_numbers.Goals.{In-Number}
 
 pub loop-i-init : goal.loop-i-init
-loop-i-init c =
-    ((omega arith, c.requires), numbered-none labels c.args.text.now c.args.numbers.now)
+loop-i-init c = numbered-none labels c.args.text.now _ (omega (arith, twelve-labels))
 
-pub slice_bounds-read_line-count : goal.slice_bounds-read_line-count
-slice_bounds-read_line-count c = c.loop-i.invariant.1.inside
+pub returns-in_err-line : goal.returns-in_err-line
+returns-in_err-line c = c.from_residual.ensures ∙ numbered-stop c.loop-i.invariant (omega (arith, twelve-labels)) c.in_err-line.ensures
 
-pub slice_bounds-read_line-start : goal.slice_bounds-read_line-start
-slice_bounds-read_line-start c = let w = c.loop-i.invariant.1.inside in omega arith
+pub slice_bounds-rest-count : goal.slice_bounds-rest-count
+slice_bounds-rest-count c = line-inside c.loop-i.invariant c.in_ok-line.line c.in_ok-line.ensures
 
-pub read_line-found-requires : goal.read_line-found-requires
-read_line-found-requires c = record { all_value = c.text-all.ensures; i_bound = omega arith }
-
-pub returns-in_default : goal.returns-in_default
-returns-in_default c =
-    numbered-stop c.loop-i.invariant.1 (omega (arith, twelve-labels)) (sym c.in_default.is ∙ c.read_line-found.ensures)
-
--- the line that was read
-next : (c : In-Number)
-    → Numbered labels c.args.text.now
-    (set c.loop-i.numbers c.loop-i.i c.in-Number.number)
-    (c.loop-i.at + c.in-Number.bytes)
-    (c.loop-i.i + 1)
-next c =
-    numbered_next c.loop-i.invariant.1 c.in-Number.number c.in-Number.bytes (omega (arith, twelve-labels)) (omega arith)
-    (sym c.in-Number.is ∙ c.read_line-found.ensures)
-
-pub overflow_add-at : goal.overflow_add-at
-overflow_add-at c = omega (arith, (next (goal.at.overflow_add-at c).In-Number).inside)
+pub slice_bounds-rest-start : goal.slice_bounds-rest-start
+slice_bounds-rest-start c = let h = line-inside c.loop-i.invariant c.in_ok-line.line c.in_ok-line.ensures in omega arith
 
 pub loop-i-preserved : goal.loop-i-preserved
 loop-i-preserved c =
-    ((omega arith, length-set c.loop-i.numbers c.loop-i.i c.in-Number.number ∙ c.loop-i.invariant.0.1), next (goal.at.loop-i-preserved c).In-Number)
+    subst (λ (rest : List ℕ). Numbered labels c.args.text.now (set c.loop-i.numbers c.loop-i.i c.in_ok-line.line.value) rest (c.loop-i.i + 1))
+    (sym (take_rest c.loop-i.rest.now c.in_ok-line.line.bytes))
+    (numbered_next c.loop-i.invariant c.in_ok-line.line (omega (arith, twelve-labels)) c.in_ok-line.ensures)
 
 pub returns : goal.returns
-returns c = numbered-all c.loop-i.invariant.1 (omega (arith, twelve-labels)) (omega arith)
+returns c = c.then_some.ensures ∙ numbered-all c.loop-i.invariant _ (search rules) (omega (arith, twelve-labels))
