@@ -2,9 +2,8 @@
 use mathlib.Core.Path.{◌≡◌, sym, ap, ap₂, ◌∙◌, subst}
 use mathlib.Core.Bool.{Bool, true, false, not}
 use mathlib.Core.List.{List}
-use Prim.Native.Nat.{ℕ, ◌+◌, ◌-◌, ◌≤◌, ◌<◌, min}
-use native.Mathlib.Omega.{arith}
-use lib.ListN.{length, take, drop}
+use Prim.Native.Nat.{ℕ, ◌≤◌}
+use lib.ListN.{length}
 use borrow.Author.Tests.{not-true, not-false}
 use Rattle.frame.specs.Read.{judge_of}
 use Rattle.frame.specs.declared.Edition.{Edition}
@@ -12,7 +11,7 @@ use Rattle.frame.specs.declared.Verdict.{Verdict}
 use Rattle.listing.specs.Lines.{piece_size, piece_count}
 use Rattle.listing.specs.declared.Pieces.TheVariants.{Frames}
 use Rattle.listing.proofs.Counts.{count_none, count_next}
-use Rattle.listing.proofs.Cuts.{part-take, part-drop}
+use Rattle.listing.proofs.Cuts.{NextPart, part-take, part-drop, part-length}
 use Rattle.ledger.specs.Counting.{most_frames, possible, with_verdict, count_of, counted_in}
 use Rattle.ledger.specs.declared.Ledger.{Ledger}
 use Rattle.ledger.specs.declared.LedgerAnswer.{LedgerAnswer}
@@ -41,40 +40,33 @@ verdict-number ed f v e = subst (λ (w : Verdict). w.number ≤ 9) (sym e) (numb
 
 -- ---- the frames of an input
 
--- what is counted so far, and the frames from a place on
-pub record CountedTo (ed : Edition) (s : List ℕ) (l m : Ledger) (start : ℕ) : Type 0 where
-  pub rest : counted_in l (all_frames ed s) ≡ counted_in m (frames_in ed (piece_count Frames (length s - start)) (drop start s))
-  pub inside : start ≤ length s
+-- what is counted so far, and the frames that are left, in parts of 26 bytes
+pub record CountedTo (ed : Edition) (s : List ℕ) (l m : Ledger) (left : List ℕ) (size : ℕ) : Type 0 where
+  pub rest : counted_in l (all_frames ed s) ≡ counted_in m (all_frames ed left)
+  pub frame-size : size ≡ piece_size Frames
 
-module _ (ed : Edition) (s : List ℕ) (l : Ledger) where
-  pub counted_start : CountedTo ed s l l 0
-  counted_start =
-      let e : length s - 0 ≡ length s = omega arith in
-      record { rest = ap (λ (n : ℕ). counted_in l (frames_in ed (piece_count Frames n) s)) (sym e); inside = omega arith }
-
-  pub counted_next : {m : Ledger} {start : ℕ} (a : LedgerAnswer) (end : ℕ) → CountedTo ed s l m start → start < length s
-      → end ≡ min (start + piece_size Frames) (length s) → a ≡ count_of m (ed, take (end - start) (drop start s)) → CountedTo ed s l a.ledger end
+module _ {ed : Edition} {s : List ℕ} {l m : Ledger} {left : List ℕ} {size : ℕ} (c : CountedTo ed s l m left size) where
+  pub counted_next : (a : LedgerAnswer) (f t : List ℕ) (same : ℕ) → same ≡ size → NextPart size left f t → a ≡ count_of m (ed, f)
+      → CountedTo ed s l a.ledger t same
   unfolding counted_in
-  counted_next {m} {start} a end c h e counted =
-      let k = piece_count Frames (length s - end) in
-      let r = drop start s in
+  counted_next a f t same e part counted =
+      let k = piece_count Frames (length t) in
+      let next : NextPart 26 left f t = subst (λ n. NextPart n left f t) c.frame-size part in
       record {
         rest =
             c.rest
-            ∙ ap (λ (n : ℕ). counted_in m (frames_in ed n r)) (count_next Frames start end (length s) h e)
-            ∙ ap (counted_in m) (frames-next ed k r)
-            ∙ ap₂ (λ (f t : List ℕ). counted_in (count_of m (ed, f)).ledger (frames_in ed k t)) (sym (part-take 26 s start end c.inside e))
-            (sym (part-drop 26 s start end c.inside e))
-            ∙ ap (λ (b : LedgerAnswer). counted_in b.ledger (frames_in ed k (drop end s))) (sym counted);
-        inside = omega arith;
+            ∙ ap (λ (n : ℕ). counted_in m (frames_in ed n left)) (count_next Frames (length left) (length f) (length t) (part-length next) next.size next.some)
+            ∙ ap (counted_in m) (frames-next ed k left)
+            ∙ ap₂ (λ (f t : List ℕ). counted_in (count_of m (ed, f)).ledger (frames_in ed k t)) (part-take next) (part-drop next)
+            ∙ ap (λ (b : LedgerAnswer). counted_in b.ledger (frames_in ed k t)) (sym counted);
+        frame-size = e ∙ c.frame-size;
       }
 
-  pub counted-all : {m : Ledger} {start : ℕ} → CountedTo ed s l m start → length s ≤ start → m ≡ counted_in l (all_frames ed s)
-  counted-all {m} {start} c h =
-      let z : length s - start ≡ 0 = omega arith in
+  pub counted-all : length left ≡ 0 → m ≡ counted_in l (all_frames ed s)
+  counted-all h =
       sym
       (c.rest
-      ∙ ap (λ (n : ℕ). counted_in m (frames_in ed (piece_count Frames n) (drop start s))) z
-      ∙ ap (λ (k : ℕ). counted_in m (frames_in ed k (drop start s))) (count_none Frames)
-      ∙ ap (counted_in m) (frames-none ed (drop start s))
+      ∙ ap (λ (n : ℕ). counted_in m (frames_in ed (piece_count Frames n) left)) h
+      ∙ ap (λ (k : ℕ). counted_in m (frames_in ed k left)) (count_none Frames)
+      ∙ ap (counted_in m) (frames-none ed left)
       ∙ counted_none m)

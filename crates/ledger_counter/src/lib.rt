@@ -31,11 +31,8 @@ fn count_frames(ledger: Ledger, edition: Edition, input: &[u8]) -> Ledger
     ensures { result ≡ counted_in ledger (all_frames edition input.now) }
 {
     let mut counted = ledger;
-    let mut start = 0;
-    while start < input.len() {
-        let end = listing::piece_end(Pieces::Frames, start, input.len());
-        counted = count(counted, edition, &input[start..end]).ledger;
-        start = end;
+    for frame in input.chunks(listing::piece_size(Pieces::Frames)) {
+        counted = count(counted, edition, frame).ledger;
     }
     counted
 }

@@ -77,12 +77,11 @@ unfolding piece_count
 count-after Frames k n h = omega arith
 count-after MarkedFrames k n h = omega arith
 
--- a piece of n bytes that starts at a place, and may be cut short
-pub count_next : (p : Pieces) (start end n : ℕ) → start < n → end ≡ min (start + piece_size p) n
-    → piece_count p (n - start) ≡ suc (piece_count p (n - end))
+-- of n bytes a piece of m, which may be cut short, and k behind it
+pub count_next : (p : Pieces) (n m k : ℕ) → n ≡ m + k → m ≡ min (piece_size p) n → 0 < n → piece_count p n ≡ suc (piece_count p k)
 unfolding piece_count
-count_next Frames start end n h e = omega arith
-count_next MarkedFrames start end n h e = omega arith
+count_next Frames n m k e f h = omega arith
+count_next MarkedFrames n m k e f h = omega arith
 
 -- of a row of whole pieces the first is there, and the others are behind it
 pub whole-next : (p : Pieces) (n k : ℕ) → n ≡ piece_size p * suc k → (piece_size p ≤ n) × (n - piece_size p ≡ piece_size p * k)

@@ -1,12 +1,12 @@
 -- A part of a list that is cut short by the list's end. Assumes nothing.
 use mathlib.Core.Path.{◌≡◌, refl, sym, ap, ◌∙◌}
 use mathlib.Core.Bool.{Bool, true, false}
-use mathlib.Core.List.{List}
-use Prim.Native.Nat.{ℕ, ◌+◌, ◌-◌, ◌≤◌, min}
+use mathlib.Core.List.{List, ◌++◌}
+use Prim.Native.Nat.{ℕ, ◌+◌, ◌-◌, ◌<◌, min}
 use native.Mathlib.Omega.{arith}
 use lib.Dec.{leb}
-use lib.ListN.{length, take, drop, length-drop, drop_of_length-le}
-use lib.Seq.{take_all, drop-drop}
+use lib.ListN.{length, take, drop, length-append, length-drop, drop_of_length-le}
+use lib.Seq.{take_all, take_at, drop_at}
 use borrow.Author.Tests.{leb-true, leb-false}
 
 -- the first n elements, or all of them
@@ -31,15 +31,18 @@ module _ (n : ℕ) (s : List ℕ) (cut : ℕ) (e : cut ≡ min n (length s)) whe
   pub cut-rest : take (length s - cut) (drop cut s) ≡ drop n s
   cut-rest = let l = length-drop cut s in take_all (length s - cut) (drop cut s) (omega arith) ∙ cut-drop
 
--- n elements from a place on
-module _ (n : ℕ) (s : List ℕ) (start end : ℕ) (inside : start ≤ length s) (e : end ≡ min (start + n) (length s)) where
-  part_cut : end - start ≡ min n (length (drop start s))
-  part_cut = let l = length-drop start s in omega arith
+-- the next of the parts of n elements that a list is made of, the last one perhaps shorter, and those behind it
+pub record NextPart (n : ℕ) (s x t : List ℕ) : Type 0 where
+  pub whole : s ≡ x ++ t
+  pub size : length x ≡ min n (length s)
+  pub some : 0 < length s
 
-  pub part-take : take (end - start) (drop start s) ≡ take n (drop start s)
-  part-take = cut-take n (drop start s) (end - start) part_cut
+module _ {n : ℕ} {s x t : List ℕ} (w : NextPart n s x t) where
+  pub part-take : take n s ≡ x
+  part-take = sym (cut-take n s (length x) w.size) ∙ ap (take (length x)) w.whole ∙ take_at x t (length x) refl
 
-  pub part-drop : drop end s ≡ drop n (drop start s)
-  part-drop =
-      let d : start + (end - start) ≡ end = omega arith in
-      ap (λ (i : ℕ). drop i s) (sym d) ∙ sym (drop-drop (end - start) start s) ∙ cut-drop n (drop start s) (end - start) part_cut
+  pub part-drop : drop n s ≡ t
+  part-drop = sym (cut-drop n s (length x) w.size) ∙ ap (drop (length x)) w.whole ∙ drop_at x t (length x) refl
+
+  pub part-length : length s ≡ length x + length t
+  part-length = ap length w.whole ∙ length-append x t

@@ -2,7 +2,7 @@
 // `listing_writer` write it.
 #![tactic(auto)]
 
-ghost use Rattle.std.specs.Prelude.{◌≡◌, ◌+◌, ◌≤◌, min};
+ghost use Rattle.std.specs.Prelude.{◌≡◌};
 ghost use Rattle.listing.specs.Lines.{piece_size, piece_count};
 
 // What an input is made of.
@@ -33,16 +33,4 @@ pub fn piece_count(pieces: Pieces, n: usize) -> usize
         return n / size;
     }
     n / size + 1
-}
-
-// Where the piece that starts at a place of an input of len bytes ends. It requires that the place is one of the input: the callers go through it from its start on.
-pub fn piece_end(pieces: Pieces, start: usize, len: usize) -> usize
-    requires { start ≤ len }
-    ensures { result ≡ min (start + piece_size pieces) len }
-{
-    let size = piece_size(pieces);
-    if len - start < size {
-        return len;
-    }
-    start + size
 }

@@ -17,17 +17,10 @@ pub fn list(edition: Edition, pieces: Pieces, input: &[u8], first: u32, out: &mu
         return 0;
     }
     let mut number = first as u64;
-    let mut start = 0;
     let mut at = 0;
-    while start < input.len() {
-        let end = listing::piece_end(pieces, start, input.len());
-        at = listing_lines::put_line(
-            out,
-            at,
-            number,
-            listing_verdicts::judge_piece(edition, pieces, &input[start..end]),
-        );
-        start = end;
+    for piece in input.chunks(listing::piece_size(pieces)) {
+        let verdict = listing_verdicts::judge_piece(edition, pieces, piece);
+        at = listing_lines::put_line(out, at, number, verdict);
         number += 1;
     }
     at

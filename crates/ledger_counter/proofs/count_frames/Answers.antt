@@ -1,14 +1,11 @@
 -- `ledger_counter::count_frames` meets its contract. Assumes nothing.
-use Prim.Native.Nat.{◌-◌}
-use Rattle.ledger_counter.proofs.Cases.{counted_start, counted_next, counted-all}
+use Rattle.ledger_counter.proofs.Cases.{counted_next, counted-all}
 use Rattle.ledger_counter.proofs.count_frames.Goals as goal
 
-pub loop-start-init : goal.loop-start-init
-loop-start-init c = counted_start _ _ _
-
-pub loop-start-preserved : goal.loop-start-preserved
-loop-start-preserved c =
-    counted_next _ _ _ _ c.piece_end-end.result c.loop-start.invariant c.loop-start-test.true c.piece_end-end.ensures c.count.ensures
+pub loop-frame-preserved : goal.loop-frame-preserved
+loop-frame-preserved c =
+    let e = c.in-Some.ensures.steps in
+    counted_next c.loop-frame.invariant _ _ _ _ e.0 (record { whole = e.1.0; size = e.1.1; some = e.1.2 }) c.count.ensures
 
 pub returns : goal.returns
-returns c = counted-all _ _ _ c.loop-start.invariant c.loop-start-test.false
+returns c = counted-all c.loop-frame.invariant c.in-None.ensures.steps.1.0
