@@ -47,18 +47,15 @@ pub fn ledger_from(numbers: &[u64]) -> Ledger
 }
 
 // The sum of the frames refused, or 4,000,001 where it is greater than 4,000,000, so that no sum is too large whatever the numbers are.
-fn limited_sum(refused: &[u64]) -> u64
-    requires { length refused.now ≡ 9 }
+fn limited_sum(refused: &[u64; 9]) -> u64
     ensures { result ≡ min (sum refused.now) 4000001 }
 {
     let mut total = 0;
-    let mut i = 0;
-    while i < 9 {
-        if refused[i] > 4000000 - total {
+    for &count in refused {
+        if count > 4000000 - total {
             return 4000001;
         }
-        total += refused[i];
-        i += 1;
+        total += count;
     }
     total
 }

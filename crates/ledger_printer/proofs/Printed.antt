@@ -5,10 +5,11 @@ use mathlib.Core.List.{List, [], ◌++◌, map, append_assoc, append-nil}
 use Prim.Native.Nat.{ℕ, ◌+◌, ◌*◌, ◌<◌, ◌≤◌}
 use native.Mathlib.Numerals.{add-one}
 use native.Mathlib.Omega.{arith}
-use lib.ListN.{length, take, drop, get_or, set, length-append, drop_of_length-le}
-use lib.Seq.{sets, drop-cons, length-sets}
+use lib.ListN.{length, drop, get_or, length-append, drop_of_length-le}
+use lib.Seq.{sets, sets-eq, take_all, drop-cons, length-sets}
+use borrow.Rule.Slice.PartMut.{put_mid}
+use Rattle.std.proofs.lemmas.Slice.{put_mid-paste}
 use Rattle.bits.specs.Layout.{sum}
-use Rattle.bits.proofs.Slices.{sets-next}
 use Rattle.decimals.specs.Decimal.{decimal}
 use Rattle.decimals.specs.Put.{Put}
 use Rattle.decimals.proofs.Decimals.{length-word}
@@ -39,13 +40,11 @@ module _ {ns : List ℕ} {total i : ℕ} (w : Counted ns total i) where
   unfolding sum
   counted-all h = let none : sum (map digit_count (drop i ns)) ≡ 0 = rw (drop_of_length-le ns {i = i} h) in omega (arith, w.all)
 
--- ---- a text stored byte by byte
+-- ---- a text that is copied
 
-pub put-none : (l : List ℕ) (at : ℕ) → Put l at [] l at
-put-none l at = record { place = omega arith; text = refl }
-
-pub stored_next : (l m s : List ℕ) (at i : ℕ) → i < length s → m ≡ sets l at (take i s) → set m (at + i) (get_or s i 0) ≡ sets l at (take (i + 1) s)
-stored_next l m s at i h e = ap (λ (x : List ℕ). set x (at + i) (get_or s i 0)) e ∙ sets-next l s at i h
+pub stored_text : (l s t : List ℕ) (at k : ℕ) → k ≡ length s → t ≡ s → at + length s ≤ length l → put_mid at k l t ≡ sets l at s
+stored_text l s t at k e f h =
+    put_mid-paste at k l t s (length s) f (sym e) refl ∙ rw (take_all (length s) s (omega arith)) (sym (sets-eq s l at h))
 
 -- ---- lines
 
@@ -56,7 +55,7 @@ pub record Lined (ls : List (List ℕ)) (ns out₀ out : List ℕ) (at i : ℕ) 
   pub stored : Put out₀ 0 done out at
 
 pub lined-none : (ls : List (List ℕ)) (ns out : List ℕ) → Lined ls ns out out 0 0
-lined-none ls ns out = record { done = []; text = refl; stored = put-none out 0 }
+lined-none ls ns out = record { done = []; text = refl; stored = record { place = refl; text = refl } }
 
 module _ {ls : List (List ℕ)} {ns out₀ out : List ℕ} {at i : ℕ} (w : Lined ls ns out₀ out at i) where
   pub lined-length : length out ≡ length out₀

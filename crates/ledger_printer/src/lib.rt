@@ -16,15 +16,12 @@ pub struct ReportLength {
 }
 
 // How many bytes the report of 12 numbers has: 113 of labels, 12 line feeds and the digits.
-fn lines_length(numbers: &[u64]) -> usize
-    requires { length numbers.now ≡ 12 }
+fn lines_length(numbers: &[u64; 12]) -> usize
     ensures { result ≡ length (labelled_lines labels numbers.now) }
 {
     let mut total = 125;
-    let mut i = 0;
-    while i < 12 {
-        total += decimals::digit_count(numbers[i]);
-        i += 1;
+    for &number in numbers {
+        total += decimals::digit_count(number);
     }
     total
 }
@@ -34,12 +31,9 @@ fn put_text(out: &mut [u8], at: usize, text: &[u8]) -> usize
     requires { at + length text.now ≤ length out.old }
     ensures { Put out.old at text.now out.new result }
 {
-    let mut i = 0;
-    while i < text.len() {
-        out[at + i] = text[i];
-        i += 1;
-    }
-    at + i
+    let end = at + text.len();
+    out[at..end].copy_from_slice(text);
+    end
 }
 
 // The line with label i of the labels' text, from place at on; the place after it.
@@ -57,17 +51,14 @@ fn put_line(out: &mut [u8], at: usize, text: &[u8], i: usize, number: u64) -> us
 }
 
 // The lines of 12 numbers, which fill the buffer.
-fn put_lines(out: &mut [u8], numbers: &[u64])
-    requires numbers_len { length numbers.now ≡ 12 }
-    requires out_len { length out.old ≡ length (labelled_lines labels numbers.now) }
+fn put_lines(out: &mut [u8], numbers: &[u64; 12])
+    requires { length out.old ≡ length (labelled_lines labels numbers.now) }
     ensures { out.new ≡ labelled_lines labels numbers.now }
 {
     let text = ledger_labels::text();
     let mut at = 0;
-    let mut i = 0;
-    while i < 12 {
-        at = put_line(out, at, &text, i, numbers[i]);
-        i += 1;
+    for (i, &number) in numbers.iter().enumerate() {
+        at = put_line(out, at, &text, i, number);
     }
 }
 

@@ -1,7 +1,6 @@
 -- `ledger_printer::print` meets its contract. Assumes nothing.
 use mathlib.Core.Path.{sym, ◌∙◌}
 use native.Mathlib.Omega.{arith}
-use borrow.Author.Rules.{rules}
 use Rattle.ledger_printer.proofs.Printed.{answer-impossible, answer-other-size, answer-printed}
 use Rattle.ledger_printer.proofs.print.Goals as goal
 
@@ -19,7 +18,7 @@ returns-then-text-lines_length c =
     record { number = both.0; text = both.1 }
 
 pub put_lines-requires : goal.put_lines-requires
-put_lines-requires c = record { numbers_len = search rules; out_len = omega arith }
+put_lines-requires c = omega arith
 
 pub returns : goal.returns
 returns c =
