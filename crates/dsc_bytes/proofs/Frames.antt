@@ -46,3 +46,6 @@ module _ (w : List Bool) (h : length w ≡ 187) where
 
 pub value-small : (l : List Bool) (i : ℕ) → i < 8 → value (take i l) < 128
 value-small l i h = lt_of_lt_of_le (value-take-lt i l) (pow_mono {j = 7} (omega arith))
+
+-- what the goals of padded_bit ask
+pub ruleset around = (padded-before, padded-word, padded-after)

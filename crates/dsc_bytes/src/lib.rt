@@ -31,6 +31,7 @@ pub fn received(f: &[u8]) -> [bool; 187]
 }
 
 // Bit k of a frame that holds w and nothing else.
+#[tactic(auto, using(crate::proofs::Frames::around), unfolding(bits::specs::Bits::digit))]
 fn padded_bit(w: &[bool], k: usize) -> u8
     requires { length w.now ≡ 187 }
     ensures { (result ≡ digit (at (padded w.now) k)) × (result ≤ 1) }

