@@ -8,16 +8,15 @@
 // space each, all hexadecimal but the case's number. What stands n times in a row in the slice is written once, with `*n`, and of bytes a point.
 #![tactic(auto)]
 
-ghost use Rattle.std.specs.Prelude.{◌≡◌, ◌<◌, ◌≤◌, true, false, length, IfOk};
+ghost use Rattle.std.specs.Prelude.{◌≡◌, ◌≤◌, true, false, length, IfOk, IfSome};
 ghost use Rattle.bits.specs.Field.{get_of};
 
 use std::io;
 use std::io::{Read, Write};
 
-// The next case: its operation and numbers, and how many bytes its slices have, 4064 at most. None was found at the end of the input, and where what is wrong has been told.
+// A case: its operation and numbers, and how many bytes its slices have, 4064 at most.
 #[derive(Clone, Copy)]
 pub struct Case {
-    pub found: bool,
     pub operation: u8,
     pub a: u64,
     pub b: u64,
@@ -27,7 +26,7 @@ pub struct Case {
 }
 
 #[derive(Clone, Copy)]
-struct Run {
+struct Repeat {
     count: usize,
     byte: u8,
 }
@@ -35,7 +34,7 @@ struct Run {
 // ---- cases
 
 // 4096 zeros: room for a case's numbers and its first slice, or for its second.
-pub fn buffer() -> [u8; 4096]
+fn buffer() -> [u8; 4096]
     ensures { 4096 ≡ length result }
 {
     [0; 4096]
@@ -48,12 +47,12 @@ fn wide(b: u8) -> usize
 }
 
 // The next run; of no byte where the input has ended.
-fn next_run<R: Read>(from: &mut R) -> io::Result<Run> {
+fn next_run<R: Read>(from: &mut R) -> io::Result<Repeat> {
     let mut pair = [0u8; 2];
     if input_io::read(2, &mut pair, from)? != 2 {
-        return Ok(Run { count: 0, byte: 0 });
+        return Ok(Repeat { count: 0, byte: 0 });
     }
-    Ok(Run {
+    Ok(Repeat {
         count: wide(pair[0]),
         byte: pair[1],
     })
@@ -80,38 +79,21 @@ fn read_runs<R: Read>(s: &mut [u8], n: usize, from: &mut R) -> io::Result<bool> 
     Ok(true)
 }
 
-fn no_case() -> Case
-    ensures input_bound { (result.input ≤ 4064) × (result.lent ≤ 4064) }
-    ensures found_value { result.found ≡ false }
-{
-    Case {
-        found: false,
-        operation: 0,
-        a: 0,
-        b: 0,
-        c: 0,
-        input: 0,
-        lent: 0,
-    }
-}
-
-// Tells that the input has no case here, or one that there is not: it cannot be read any further.
-pub fn wrong<W: Write>(to: &mut W) -> io::Result<Case>
-    ensures input_bound { IfOk result (λ c. (c.input ≤ 4064) × (c.lent ≤ 4064)) }
-    ensures found_value { IfOk result (λ c. c.found ≡ false) }
+// Ends with an answer that tells that the input has no case here, or one that there is not: it cannot be read any further.
+pub fn wrong<W: Write>(to: &mut W) -> io::Result<bool>
+    ensures { IfOk result (λ b. b ≡ false) }
 {
     to.write_all(b" wrong case\n")?;
-    Ok(no_case())
+    Ok(false)
 }
 
 // The case whose numbers stand in front.
 fn case_of(operation: u8, numbers: &[u8], input: usize, lent: usize) -> Case
     ensures input_value { (result.input ≡ input) × (result.lent ≡ lent) }
-    ensures found_value { (result.found ≡ true) × (result.operation ≡ operation) }
+    ensures operation_value { result.operation ≡ operation }
     ensures a_value { (result.a ≡ get_of numbers.now 0 64) × (result.b ≡ get_of numbers.now 64 64) × (result.c ≡ get_of numbers.now 128 64) }
 {
     Case {
-        found: true,
         operation,
         a: bit_fields::get(numbers, 0, 64),
         b: bit_fields::get(numbers, 64, 64),
@@ -121,55 +103,89 @@ fn case_of(operation: u8, numbers: &[u8], input: usize, lent: usize) -> Case
     }
 }
 
-// Reads the numbers and both slices.
-fn read_slices<R: Read, W: Write>(
+// Reads the numbers and both slices; no case where they are too long or not all there.
+fn read_slices<R: Read>(
     operation: u8,
     input: usize,
     lent: usize,
     first: &mut [u8],
     second: &mut [u8],
     from: &mut R,
-    to: &mut W,
-) -> io::Result<Case>
-    ensures { IfOk result (λ c. (c.input ≤ 4064) × (c.lent ≤ 4064)) }
+) -> io::Result<Option<Case>>
+    ensures { IfOk result (λ o. IfSome o (λ c. (c.input ≤ 4064) × (c.lent ≤ 4064))) }
 {
-    if 4064 < input {
-        return wrong(to);
+    if 4064 < input || 4064 < lent {
+        return Ok(None);
     }
-    if 4064 < lent {
-        return wrong(to);
+    if !read_runs(first, 24 + input, from)? || !read_runs(second, lent, from)? {
+        return Ok(None);
     }
-    if !read_runs(first, 24 + input, from)? {
-        return wrong(to);
-    }
-    if !read_runs(second, lent, from)? {
-        return wrong(to);
-    }
-    Ok(case_of(operation, first, input, lent))
+    Ok(Some(case_of(operation, first, input, lent)))
 }
 
-// Reads case n: 24 bytes of numbers and then its first slice into one buffer, its second slice into the other.
-pub fn next_case<R: Read, W: Write>(
+// Reads case n: 24 bytes of numbers and then its first slice into one buffer, its second slice into the other. There is none at the end of the input, and where what is
+// wrong has been told.
+fn next_case<R: Read, W: Write>(
     n: u64,
     first: &mut [u8],
     second: &mut [u8],
     from: &mut R,
     to: &mut W,
-) -> io::Result<Case>
-    ensures { IfOk result (λ c. (c.input ≤ 4064) × (c.lent ≤ 4064)) }
+) -> io::Result<Option<Case>>
+    ensures { IfOk result (λ o. IfSome o (λ c. (c.input ≤ 4064) × (c.lent ≤ 4064))) }
 {
     let mut head = [0u8; 5];
     let got = input_io::read(5, &mut head, from)?;
     if got == 0 {
-        return Ok(no_case());
+        return Ok(None);
     }
     write!(to, "{n}")?;
     if got != 5 {
-        return wrong(to);
+        wrong(to)?;
+        return Ok(None);
     }
     let input = bit_fields::get(&head, 8, 16) as usize;
     let lent = bit_fields::get(&head, 24, 16) as usize;
-    read_slices(head[0], input, lent, first, second, from, to)
+    let case = read_slices(head[0], input, lent, first, second, from)?;
+    if case.is_none() {
+        wrong(to)?;
+    }
+    Ok(case)
+}
+
+// Reads and answers case n; whether there may be a next one.
+fn turn<R: Read, W: Write, F: FnMut(Case, &[u8], &mut [u8], &mut W) -> io::Result<bool>>(
+    n: u64,
+    from: &mut R,
+    to: &mut W,
+    answer: &mut F,
+) -> io::Result<bool>
+    requires { (f : F) (case : _) (input : _) (lent : _) (to : _) → length input.now ≡ case.input → length lent.now ≡ case.lent → F.pre f case input lent to }
+{
+    let mut first = buffer();
+    let mut second = buffer();
+    let Some(case) = next_case(n, &mut first, &mut second, from, to)? else {
+        return Ok(false);
+    };
+    let input = case.input;
+    let lent = case.lent;
+    answer(case, &first[24..24 + input], &mut second[..lent], to)
+}
+
+// Reads the cases one after the other and hands each, with slices of its two lengths, to its answer, which says whether there may be a next one: case 999,999 is the last.
+pub fn run<R: Read, W: Write, F: FnMut(Case, &[u8], &mut [u8], &mut W) -> io::Result<bool>>(
+    from: &mut R,
+    to: &mut W,
+    mut answer: F,
+) -> io::Result<()>
+    requires { (f : F) (case : _) (input : _) (lent : _) (to : _) → length input.now ≡ case.input → length lent.now ≡ case.lent → F.pre f case input lent to }
+{
+    for n in 1..1000000 {
+        if !turn(n, from, to, &mut answer)? {
+            break;
+        }
+    }
+    Ok(())
 }
 
 // ---- answers
@@ -194,51 +210,33 @@ fn byte_run<W: Write>(b: u8, n: u64, to: &mut W) -> io::Result<()> {
     Ok(())
 }
 
-// Byte i, the nth of its kind in a row: written if it is the last of them. The answer is how many of its kind the next byte makes.
-fn after_byte<W: Write>(s: &[u8], i: usize, n: u64, to: &mut W) -> io::Result<u64>
-    requires { i < length s.now }
-{
-    if i + 1 < s.len() && s[i + 1] == s[i] {
-        return Ok(n.wrapping_add(1));
-    }
-    byte_run(s[i], n, to)?;
-    Ok(1)
-}
-
 // Ends an answer with a lent slice of bytes; the next case may be read.
 pub fn end_bytes<W: Write>(s: &[u8], to: &mut W) -> io::Result<bool>
     ensures { IfOk result (λ b. b ≡ true) }
 {
     to.write_all(b":")?;
-    let mut n = 1;
-    for i in 0..s.len() {
-        n = after_byte(s, i, n, to)?;
+    for run in s.chunk_by(|a, b| a == b) {
+        byte_run(run[0], run.len() as u64, to)?;
     }
     to.write_all(b"\n")?;
     Ok(true)
 }
 
-// The same for number i.
-fn after_value<W: Write>(s: &[u64], i: usize, n: u64, to: &mut W) -> io::Result<u64>
-    requires { i < length s.now }
-{
-    if i + 1 < s.len() && s[i + 1] == s[i] {
-        return Ok(n.wrapping_add(1));
-    }
-    hex(s[i], to)?;
+// A number that stands n times in a row.
+fn number_run<W: Write>(number: u64, n: u64, to: &mut W) -> io::Result<()> {
+    hex(number, to)?;
     if 1 < n {
         times(n, to)?;
     }
-    Ok(1)
+    Ok(())
 }
 
 // Ends an answer with a lent slice of numbers.
 pub fn end_values<W: Write>(s: &[u64], to: &mut W) -> io::Result<bool>
     ensures { IfOk result (λ b. b ≡ true) }
 {
-    let mut n = 1;
-    for i in 0..s.len() {
-        n = after_value(s, i, n, to)?;
+    for run in s.chunk_by(|a, b| a == b) {
+        number_run(run[0], run.len() as u64, to)?;
     }
     to.write_all(b"\n")?;
     Ok(true)

@@ -3,7 +3,7 @@
 
 use dsc::Outcome;
 use std::io;
-use std::io::{Read, Write};
+use std::io::Write;
 use test_cases::Case;
 
 // The CRC-10 from a bit on, of no bit, of one, and so on; and of all of them.
@@ -76,33 +76,15 @@ fn answer<W: Write>(
 
 fn run<W: Write>(case: Case, input: &[u8], lent: &mut [u8], to: &mut W) -> io::Result<bool> {
     if 9 < case.operation {
-        return Ok(test_cases::wrong(to)?.found);
+        return test_cases::wrong(to);
     }
     let status = answer(case, case.a as usize, case.b as usize, input, lent, to)?;
     test_cases::hex(status, to)?;
     test_cases::end_bytes(lent, to)
 }
 
-// Reads and answers case n; whether there may be a next one.
-fn turn<R: Read, W: Write>(n: u64, from: &mut R, to: &mut W) -> io::Result<bool> {
-    let mut first = test_cases::buffer();
-    let mut second = test_cases::buffer();
-    let case = test_cases::next_case(n, &mut first, &mut second, from, to)?;
-    if !case.found {
-        return Ok(false);
-    }
-    let input = case.input;
-    let lent = case.lent;
-    run(case, &first[24..24 + input], &mut second[0..lent], to)
-}
-
 fn main(rt: HostRuntime) -> io::Result<()> {
     let mut input = rt.stdin();
     let mut output = rt.stdout();
-    for n in 1..1000000 {
-        if !turn(n, &mut input, &mut output)? {
-            break;
-        }
-    }
-    Ok(())
+    test_cases::run(&mut input, &mut output, run)
 }

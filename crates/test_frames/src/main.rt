@@ -3,7 +3,7 @@
 #![tactic(auto)]
 
 use std::io;
-use std::io::{Read, Write};
+use std::io::Write;
 use test_cases::Case;
 
 // The edition that a case names.
@@ -56,29 +56,11 @@ fn run<W: Write>(case: Case, input: &[u8], lent: &mut [u8], to: &mut W) -> io::R
     if case.operation < 3 {
         return answer(case, input, lent, to);
     }
-    Ok(test_cases::wrong(to)?.found)
-}
-
-// Reads and answers case n; whether there may be a next one.
-fn turn<R: Read, W: Write>(n: u64, from: &mut R, to: &mut W) -> io::Result<bool> {
-    let mut first = test_cases::buffer();
-    let mut second = test_cases::buffer();
-    let case = test_cases::next_case(n, &mut first, &mut second, from, to)?;
-    if !case.found {
-        return Ok(false);
-    }
-    let input = case.input;
-    let lent = case.lent;
-    run(case, &first[24..24 + input], &mut second[0..lent], to)
+    test_cases::wrong(to)
 }
 
 fn main(rt: HostRuntime) -> io::Result<()> {
     let mut input = rt.stdin();
     let mut output = rt.stdout();
-    for n in 1..1000000 {
-        if !turn(n, &mut input, &mut output)? {
-            break;
-        }
-    }
-    Ok(())
+    test_cases::run(&mut input, &mut output, run)
 }

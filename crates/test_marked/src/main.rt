@@ -4,7 +4,7 @@
 #![tactic(auto)]
 
 use std::io;
-use std::io::{Read, Write};
+use std::io::Write;
 use test_cases::Case;
 
 // The edition that a case names.
@@ -57,7 +57,7 @@ fn run<W: Write>(
     to: &mut W,
 ) -> io::Result<bool> {
     if 3 < case.operation {
-        return Ok(test_cases::wrong(to)?.found);
+        return test_cases::wrong(to);
     }
     if case.operation == 3 {
         return read(case, frame, marks, lent, to);
@@ -70,31 +70,13 @@ fn run<W: Write>(
 fn split<W: Write>(case: Case, input: &[u8], lent: &mut [u8], to: &mut W) -> io::Result<bool> {
     let at = case.a as usize;
     if input.len() < at {
-        return Ok(test_cases::wrong(to)?.found);
+        return test_cases::wrong(to);
     }
     run(case, &input[0..at], &input[at..], lent, to)
-}
-
-// Reads and answers case n; whether there may be a next one.
-fn turn<R: Read, W: Write>(n: u64, from: &mut R, to: &mut W) -> io::Result<bool> {
-    let mut first = test_cases::buffer();
-    let mut second = test_cases::buffer();
-    let case = test_cases::next_case(n, &mut first, &mut second, from, to)?;
-    if !case.found {
-        return Ok(false);
-    }
-    let input = case.input;
-    let lent = case.lent;
-    split(case, &first[24..24 + input], &mut second[0..lent], to)
 }
 
 fn main(rt: HostRuntime) -> io::Result<()> {
     let mut input = rt.stdin();
     let mut output = rt.stdout();
-    for n in 1..1000000 {
-        if !turn(n, &mut input, &mut output)? {
-            break;
-        }
-    }
-    Ok(())
+    test_cases::run(&mut input, &mut output, split)
 }

@@ -3,7 +3,7 @@
 #![tactic(auto)]
 
 use std::io;
-use std::io::{Read, Write};
+use std::io::Write;
 use test_cases::Case;
 
 fn put_doubles<W: Write>(s: &[f64; 4], to: &mut W) -> io::Result<()> {
@@ -103,33 +103,17 @@ fn lending<W: Write>(case: Case, input: &[u8], lent: &mut [u64], to: &mut W) -> 
 
 fn run<W: Write>(case: Case, input: &[u8], bytes: &[u8], to: &mut W) -> io::Result<bool> {
     if 4 < case.operation {
-        return Ok(test_cases::wrong(to)?.found);
+        return test_cases::wrong(to);
     }
     let mut lent = test_values::no_values();
     let n = test_values::values(bytes, &mut lent);
     lending(case, input, &mut lent[0..n], to)
 }
 
-// Reads and answers case n; whether there may be a next one.
-fn turn<R: Read, W: Write>(n: u64, from: &mut R, to: &mut W) -> io::Result<bool> {
-    let mut first = test_cases::buffer();
-    let mut second = test_cases::buffer();
-    let case = test_cases::next_case(n, &mut first, &mut second, from, to)?;
-    if !case.found {
-        return Ok(false);
-    }
-    let input = case.input;
-    let lent = case.lent;
-    run(case, &first[24..24 + input], &second[0..lent], to)
-}
-
 fn main(rt: HostRuntime) -> io::Result<()> {
     let mut input = rt.stdin();
     let mut output = rt.stdout();
-    for n in 1..1000000 {
-        if !turn(n, &mut input, &mut output)? {
-            break;
-        }
-    }
-    Ok(())
+    test_cases::run(&mut input, &mut output, |case, input, lent, to| {
+        run(case, input, lent, to)
+    })
 }

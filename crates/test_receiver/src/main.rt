@@ -6,7 +6,7 @@ use follower::Follower;
 use follower_events::{Event, Kind};
 use frame::Edition;
 use std::io;
-use std::io::{Read, Write};
+use std::io::Write;
 use test_cases::Case;
 
 // ---- the follower from any update number: a state is a kind, 0 quiet, 1 real, 2 test, 3 safety, 4 safety test, and an update number
@@ -128,7 +128,7 @@ fn answer<W: Write>(
 
 fn run<W: Write>(case: Case, input: &[u8], lent: &mut [u8], to: &mut W) -> io::Result<bool> {
     if 5 < case.operation {
-        return Ok(test_cases::wrong(to)?.found);
+        return test_cases::wrong(to);
     }
     let edition = (case.c % 0x100000000) as u32;
     let status = answer(case, edition, input, lent, to)?;
@@ -136,26 +136,8 @@ fn run<W: Write>(case: Case, input: &[u8], lent: &mut [u8], to: &mut W) -> io::R
     test_cases::end_bytes(lent, to)
 }
 
-// Reads and answers case n; whether there may be a next one.
-fn turn<R: Read, W: Write>(n: u64, from: &mut R, to: &mut W) -> io::Result<bool> {
-    let mut first = test_cases::buffer();
-    let mut second = test_cases::buffer();
-    let case = test_cases::next_case(n, &mut first, &mut second, from, to)?;
-    if !case.found {
-        return Ok(false);
-    }
-    let input = case.input;
-    let lent = case.lent;
-    run(case, &first[24..24 + input], &mut second[0..lent], to)
-}
-
 fn main(rt: HostRuntime) -> io::Result<()> {
     let mut input = rt.stdin();
     let mut output = rt.stdout();
-    for n in 1..1000000 {
-        if !turn(n, &mut input, &mut output)? {
-            break;
-        }
-    }
-    Ok(())
+    test_cases::run(&mut input, &mut output, run)
 }

@@ -10,7 +10,6 @@ use Rattle.ledger.proofs.Verdicts.{with-accepted, with-refused}
 use Rattle.ledger_numbers.proofs.with_verdict.Goals as goal
 use Rattle.ledger_numbers.proofs.with_verdict.Goals.{After-refused-1, Start}
 
--- `ledger_numbers::with_verdict` meets its contract. Assumes nothing.
 -- the numbers are those of a possible ledger
 counts : (c : Start) → Counts c.args.ledger
 counts c = possible-counts c.args.ledger c.requires.ledger_value
