@@ -4,9 +4,29 @@
 ghost use Rattle.std.specs.Prelude.{◌≡◌, ◌++◌, ◌-◌, ◌^◌, eqb, ltb, length, drop};
 ghost use Rattle.bits.specs.Bits.{bits};
 ghost use Rattle.bits.specs.Layout.{pack, unpack, sum, Layout, fitb};
-ghost use Rattle.bits.specs.Segment.{holds};
+ghost use Rattle.bits.specs.Segment.{width, holds};
+ghost use Rattle.bit_layouts.specs.Kind.{segment_of};
 
 use bits::Segment;
+
+// What so many bits are: a field, or fixed at 1, or fixed at 0.
+#[derive(Clone, Copy)]
+pub enum Kind {
+    Field,
+    FixedOnes,
+    FixedZeros,
+}
+
+// The kind of a layout's segment.
+pub fn kind_of(segment: Segment) -> Kind
+    ensures { segment_of result (width segment) ≡ segment }
+{
+    match segment {
+        Segment::Field(_) => Kind::Field,
+        Segment::Ones(_) => Kind::FixedOnes,
+        Segment::Zeros(_) => Kind::FixedZeros,
+    }
+}
 
 // The values of the fields of the given widths, end to end from the first bit on.
 // The widths are a table of the calling program, known when it is written: that they find room is for its
@@ -66,13 +86,13 @@ pub fn all_ones(w: usize, v: u64) -> bool
     v == numbers::pow2(w) - 1
 }
 
-// The segment holds v, if it is fixed.
-pub fn segment_holds(segment: Segment, v: u64) -> bool
-    ensures { result ≡ holds segment v }
+// w bits of the kind hold v, if they are fixed: of any width, where a layout's segment has one below 256.
+pub fn segment_holds(kind: Kind, w: usize, v: u64) -> bool
+    ensures { result ≡ holds (segment_of kind w) v }
 {
-    match segment {
-        Segment::Field(_) => true,
-        Segment::Ones(width) => all_ones(usize::from(width), v),
-        Segment::Zeros(_) => v == 0,
+    match kind {
+        Kind::Field => true,
+        Kind::FixedOnes => all_ones(w, v),
+        Kind::FixedZeros => v == 0,
     }
 }

@@ -38,7 +38,7 @@ pub fn read_fields(s: &[u8], layout: &[Segment], out: &mut [u64]) -> bool
         let width = segment.width();
         let v = bit_fields::get(s, at, width);
         i = keep(*segment, v, out, i);
-        fixed &= bit_layouts::segment_holds(*segment, v);
+        fixed &= bit_layouts::segment_holds(bit_layouts::kind_of(*segment), width, v);
         at += width;
     }
     fixed

@@ -1,11 +1,12 @@
 -- `segments::read_fields` meets its contract. Assumes nothing.
-use Rattle.std.proofs.Common.{◌≡◌, ◌∙◌, ℕ, Bool, cond, ◌+◌, ◌*◌, ◌≤◌, ap, refl, arith, length, get_or}
+use Rattle.std.proofs.Common.{◌≡◌, ◌∙◌, ℕ, Bool, cond, ◌+◌, ◌*◌, ◌≤◌, ap, ap₂, refl, arith, length, get_or}
 use Rattle.bits.specs.declared.Segment.TheVariants.{Field}
 use Rattle.bits.specs.Bits.{bits}
 use Rattle.bits.specs.Field.{field_at, within}
 use Rattle.bits.specs.Layout.{sum}
 use Rattle.bits.specs.Segment.{width, holds}
 use Rattle.bits.proofs.Field.{within-room}
+use Rattle.bit_layouts.specs.Kind.{segment_of}
 use Rattle.segments.specs.Step.{stored}
 use Rattle.segments.proofs.Turns.{segment_at, place_next, place_room, read-turn, read-room, read-end, fixed-turn, fixed-end}
 use Rattle.segments.proofs.read_fields.Goals as goal
@@ -39,6 +40,7 @@ loop-segment-preserved c =
     c.get-v.ensures
     ∙ ap (λ (w : ℕ). cond (within (length s) at w) (field_at s at w) 0) c.width-width.ensures
     ∙ ap (λ (t : Bool). cond t (field_at s at (width g)) 0) (within-room (length s) at (width g) narrow room) in
+    let kind : segment_of c.kind_of.result c.width-width.result ≡ g = ap (segment_of c.kind_of.result) c.width-width.ensures ∙ c.kind_of.ensures in
     rw c.width-width.ensures
     record {
       place = place_next at a c.loop-segment.invariant.place;
@@ -47,7 +49,7 @@ loop-segment-preserved c =
           read-turn a _ c.loop-segment.out _ (bits s) at c.loop-segment.i _ c.keep-i.ensures.place
           (c.keep-i.ensures.stored ∙ ap (λ (x : ℕ). stored g x c.loop-segment.i c.loop-segment.out) v) c.loop-segment.invariant.values;
       fixed =
-          fixed-turn a (bits s) at _ c.loop-segment.fixed _ c.segment_holds-fixed.result (c.segment_holds-fixed.ensures ∙ ap (holds g) v) refl c.loop-segment.invariant.fixed;
+          fixed-turn a (bits s) at _ c.loop-segment.fixed _ c.segment_holds-fixed.result (c.segment_holds-fixed.ensures ∙ ap₂ holds kind v) refl c.loop-segment.invariant.fixed;
     }
 
 pub returns : goal.returns
