@@ -160,7 +160,7 @@ fn turn<R: Read, W: Write, F: FnMut(Case, &[u8], &mut [u8], &mut W) -> io::Resul
     to: &mut W,
     answer: &mut F,
 ) -> io::Result<bool>
-    requires { (f : F) (case : _) (input : _) (lent : _) (to : _) → length input.now ≡ case.input → length lent.now ≡ case.lent → F.pre f case input lent to }
+    requires { (f : F) (case : _) (input : _) (lent : _) (to : _) → case.input ≤ 4064 → case.lent ≤ 4064 → length input.now ≡ case.input → length lent.now ≡ case.lent → F.pre f case input lent to }
 {
     let mut first = buffer();
     let mut second = buffer();
@@ -178,7 +178,7 @@ pub fn run<R: Read, W: Write, F: FnMut(Case, &[u8], &mut [u8], &mut W) -> io::Re
     to: &mut W,
     mut answer: F,
 ) -> io::Result<()>
-    requires { (f : F) (case : _) (input : _) (lent : _) (to : _) → length input.now ≡ case.input → length lent.now ≡ case.lent → F.pre f case input lent to }
+    requires { (f : F) (case : _) (input : _) (lent : _) (to : _) → case.input ≤ 4064 → case.lent ≤ 4064 → length input.now ≡ case.input → length lent.now ≡ case.lent → F.pre f case input lent to }
 {
     for n in 1..1000000 {
         if !turn(n, from, to, &mut answer)? {
