@@ -12,7 +12,7 @@ use Rattle.std.proofs.lemmas.List.{get_or-drop}
 use lib.Pointwise.{pointwise}
 use Rattle.std.specs.Bool.{then_some}
 use lib.Seq.{drop-cons, take_all, take-suc-set, append_snoc}
-use borrow.Author.Tests.{ne_eqb}
+use borrow.Author.Tests.{eq-eqb, ne_eqb}
 use Rattle.decimals.specs.Reading.{number as number_of, decimal_at}
 use Rattle.decimals.specs.declared.Number.{Number}
 use Rattle.decimals.proofs.Readings.{starts-equal, starts-unequal}
@@ -46,13 +46,15 @@ module _ (label s : List ℕ) (starts : pointwise eqb (take (length label) s) la
 
     -- and then what stands behind it is a line feed, or not
     pub line-end : (b : Bool) → b ≡ eqb (get_or (drop (length label) s) n.bytes 0) 10
-        → then_some b (record { value = n.value; bytes = length label + n.bytes + 1 }) ≡ line_at label s
+        → line_at label s ≡ cond b (number_of n.value (length label + n.bytes + 1)) None
     unfolding line_ended
-    line-end b e = go b ∙ sym (line-behind (Some n) number ∙ rw (e, get_or-drop (length label) s n.bytes 0) refl)
-      where
-        go : (b : Bool) → then_some b (record { value = n.value; bytes = length label + n.bytes + 1 }) ≡ cond b (number_of n.value (length label + n.bytes + 1)) None
-        go true = refl
-        go false = refl
+    line-end b e = line-behind (Some n) number ∙ rw (e, get_or-drop (length label) s n.bytes 0) refl
+
+    pub line-found : get_or (drop (length label) s) n.bytes 0 ≡ 10 → number_of n.value (length label + n.bytes + 1) ≡ line_at label s
+    line-found e = sym (line-end true (sym (eq-eqb _ 10 e)))
+
+    pub line-no-feed : (get_or (drop (length label) s) n.bytes 0 ≡ 10 → ⊥) → None ≡ line_at label s
+    line-no-feed e = sym (line-end false (sym (ne_eqb _ 10 e)))
 
 pub ruleset by_line = (line-other-label, line-no-number, line-no-end)
 

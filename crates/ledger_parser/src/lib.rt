@@ -16,11 +16,13 @@ fn read_labelled(label: &[u8], text: &[u8]) -> Option<Number>
     let behind = text.strip_prefix(label)?;
     let number = decimals::read_decimal(behind)?;
     let is_ended = *behind.get(number.bytes)? == b'\n';
-    let line = Number {
+    if !is_ended {
+        return None;
+    }
+    Some(Number {
         value: number.value,
         bytes: label.len() + number.bytes + 1,
-    };
-    is_ended.then_some(line)
+    })
 }
 
 // The same with label i of the labels' text.
