@@ -31,9 +31,9 @@ pub record Written (out₀ : List ℕ) (at n : ℕ) (out : List ℕ) (i rest : �
   pub out-is : out ≡ sets out₀ i stored
   pub small : rest < 18446744073709551616
 
-pub written_none : (out : List ℕ) (at n i : ℕ) → n < 18446744073709551616 → i ≡ at + length (decimal n) → Written out at n out i n
-written_none out at n i h e =
-    record { stored = []; text = sym (append-nil (decimal n)); place = sym e; out-is = refl; small = h }
+pub written_none : (out : List ℕ) (at n i rest : ℕ) → n < 18446744073709551616 → i ≡ at + length (decimal n) → rest ≡ n → Written out at n out i rest
+written_none out at n i rest h e same =
+    rw same (record { stored = []; text = sym (append-nil (decimal n)); place = sym e; out-is = refl; small = h })
 
 module _ {out₀ : List ℕ} {at n : ℕ} {out : List ℕ} {i rest : ℕ} (w : Written out₀ at n out i rest) where
   pub written-length : length out ≡ length out₀

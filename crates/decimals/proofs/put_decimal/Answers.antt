@@ -4,7 +4,7 @@ use Rattle.decimals.proofs.Written.{written_none, written_next, written_all}
 use Rattle.decimals.proofs.put_decimal.Goals as goal
 
 pub loop-place-init : goal.loop-place-init
-loop-place-init c = written_none c.args.out.now c.args.at c.args.n _ (omega arith) (omega arith)
+loop-place-init c = written_none c.args.out.now c.args.at c.args.n _ _ (omega arith) (omega arith) (omega arith)
 
 pub loop-place-preserved : goal.loop-place-preserved
 loop-place-preserved c = written_next c.loop-place.invariant _ (omega arith) (omega arith)
