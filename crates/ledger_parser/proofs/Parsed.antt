@@ -1,5 +1,5 @@
 -- A report read line by line. Assumes nothing.
-use mathlib.Core.Path.{◌≡◌, refl, sym, ap, ◌∙◌}
+use mathlib.Core.Path.{◌≡◌, refl, sym, ap, ap₂, ◌∙◌}
 use mathlib.Core.Bool.{Bool, true, false, cond}
 use mathlib.Core.List.{List, [], ◌∷◌, ◌++◌, append-nil}
 use Rattle.std.specs.Prelude.{Option, Some, None}
@@ -13,7 +13,7 @@ use lib.Pointwise.{pointwise}
 use Rattle.std.specs.Bool.{then_some}
 use lib.Seq.{drop-cons, take_all, take-suc-set, append_snoc}
 use borrow.Author.Tests.{eq-eqb, ne_eqb}
-use Rattle.decimals.specs.Reading.{number as number_of, decimal_at}
+use Rattle.decimals.specs.Reading.{number as number_of, starts_with, decimal_at}
 use Rattle.decimals.specs.declared.Number.{Number}
 use Rattle.decimals.proofs.Readings.{starts-equal, starts-unequal}
 use Rattle.ledger.specs.Counting.{possible}
@@ -22,17 +22,32 @@ use Rattle.ledger.specs.declared.Ledger.{Ledger}
 use Rattle.ledger.specs.declared.LedgerAnswer.{LedgerAnswer}
 use Rattle.ledger.proofs.Reports.{line-is}
 
+-- ---- a label
+
+-- l is stripped from t. That t is all of the text, and l all of the label, are premises: where a body looks at a part alone, one of them is left to prove.
+module _ (label s l t : List ℕ) where
+  pub starts_with-stripped : pointwise eqb (take (length l) t) l ≡ true → t ≡ s → l ≡ label → starts_with label s ≡ true
+  starts_with-stripped e text all = rw (sym text, sym all) (starts-equal l t e)
+
+  pub starts_with-not_stripped : pointwise eqb (take (length l) t) l ≡ false → t ≡ s → l ≡ label → starts_with label s ≡ false
+  starts_with-not_stripped e text all = rw (sym text, sym all) (starts-unequal l t e)
+
+  pub behind-stripped : (behind : List ℕ) → behind ≡ drop (length l) t → t ≡ s → l ≡ label → behind ≡ drop (length label) s
+  behind-stripped behind e text all = e ∙ ap₂ (λ x y. drop (length x) y) all text
+
+pub ruleset by_label = (starts_with-stripped, starts_with-not_stripped, behind-stripped, take_all)
+
 -- ---- a line
 
-pub line-other-label : (label s : List ℕ) → pointwise eqb (take (length label) s) label ≡ false → line_at label s ≡ None
+pub line-other-label : (label s : List ℕ) → starts_with label s ≡ false → line_at label s ≡ None
 unfolding line_at
-line-other-label label s e = rw (starts-unequal label s e)
+line-other-label label s e = rw e
 
 -- the text begins with the label
-module _ (label s : List ℕ) (starts : pointwise eqb (take (length label) s) label ≡ true) where
+module _ (label s : List ℕ) (starts : starts_with label s ≡ true) where
   line-behind : (f : Option Number) → decimal_at (drop (length label) s) ≡ f → line_at label s ≡ line_ended (length label) s f
   unfolding line_at
-  line-behind f e = rw (starts-equal label s starts, e)
+  line-behind f e = rw (starts, e)
 
   pub line-no-number : decimal_at (drop (length label) s) ≡ None → line_at label s ≡ None
   unfolding line_ended

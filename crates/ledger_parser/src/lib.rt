@@ -1,19 +1,29 @@
 // The reader of a printed report, strictly from the front: a line for each label, and nothing behind the last.
 #![tactic(auto)]
 
-ghost use Rattle.std.specs.Prelude.{◌≡◌, [], ◌<◌, get_or};
+ghost use Rattle.std.specs.Prelude.{◌≡◌, [], ◌<◌, false, true, length, drop, get_or};
+ghost use Rattle.std.specs.Option.{MatchOption};
+ghost use Rattle.decimals.specs.Reading.{starts_with};
 ghost use Rattle.ledger.specs.Report.{labels, line_at, numbers_in, not_report, parse_of};
 ghost use Rattle.ledger_labels.specs.Labels.{label_text};
 
 use decimals::Number;
 use ledger::{Ledger, LedgerAnswer};
 
+// What stands behind the label, if the text begins with it.
+#[tactic(auto, using(crate::proofs::Parsed::by_label))]
+fn behind_label<'a>(label: &[u8], text: &'a [u8]) -> Option<&'a [u8]>
+    ensures { MatchOption result (starts_with label.now text.now ≡ false) (λ behind. (starts_with label.now text.now ≡ true) × (behind.now ≡ drop (length label.now) text.now)) }
+{
+    text.strip_prefix(label)
+}
+
 // The number of the line that the text begins with, if it is one with this label, and how many bytes the line has.
 #[tactic(auto, using(crate::proofs::Parsed::by_line))]
 fn read_labelled(label: &[u8], text: &[u8]) -> Option<Number>
     ensures { result ≡ line_at label.now text.now }
 {
-    let behind = text.strip_prefix(label)?;
+    let behind = behind_label(label, text)?;
     let number = decimals::read_decimal(behind)?;
     let is_ended = *behind.get(number.bytes)? == b'\n';
     if !is_ended {
