@@ -46,6 +46,15 @@ place_next {l} {j} at a e = ap₂ (λ m w. m + w) e (sym a.wide) ∙ sym (sum-ta
 pub place_room : {l : List Segment} {j : ℕ} {g : Segment} (at : ℕ) → At l j g → at ≡ sum (take j (widths l)) → at + width g ≤ sum (widths l)
 place_room {l} {j} at a e = omega (arith, e, a.wide, sum-next (widths l) j a.inside)
 
+-- the place of the next field's value, counted on from place i itself, and at most one on
+pub place-of : (g : Segment) (i k next : ℕ) → next ≡ next_place g k → k ≡ i → next ≡ next_place g i
+place-of g i k next e here = e ∙ ap (next_place g) here
+
+pub place-few : (g : Segment) (i : ℕ) → next_place g i ≤ i + 1
+place-few (Field w) i = omega arith
+place-few (Ones w) i = omega arith
+place-few (Zeros w) i = omega arith
+
 -- nothing is left after the last
 no_segments : (l : List Segment) (j : ℕ) → j ≡ length l → drop j l ≡ []
 no_segments l j h = ap (λ k. drop k l) h ∙ drop-length l

@@ -74,7 +74,9 @@ pub fn write_fields(buf: &mut [u8], layout: &[Segment], vs: &[u64])
 {
     let mut at = 0;
     let mut i = 0;
-    for segment in layout {
+    for (j, segment) in layout.iter().enumerate() {
+        // a fixed segment has no value
+        prove!(i <= j);
         let width = segment.width();
         bit_fields::put(buf, at, width, segment_value(*segment, vs, i));
         i = next_place(*segment, i);
