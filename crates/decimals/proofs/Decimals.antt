@@ -101,3 +101,7 @@ length-power (suc k) n h l m =
     let z : n / 10 ≡ 0 → ⊥ = λ e. omega (arith, pow-suc 10 k, one-le-pow k 10 (omega arith)) in
     let r = length-power k (n / 10) (omega arith) (omega (arith, pow-suc 10 k)) (omega (arith, pow-suc 10 k)) in
     rw (length_last n h, leading-some (n / 10) z) (omega (arith, r))
+
+-- the same of what a program counts: that its number m is n itself, and its count one more than the power, are premises
+pub count-power : (k m n count : ℕ) → n < 18446744073709551616 → 10 ^ k ≤ m → m < 10 * 10 ^ k → m ≡ n → count ≡ k + 1 → count ≡ length (decimal n)
+count-power k m n count h l u whole more = more ∙ length-power k m (omega (arith, whole, h)) l u ∙ ap (λ (x : ℕ). length (decimal x)) whole
