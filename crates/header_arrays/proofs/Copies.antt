@@ -7,7 +7,9 @@ use native.Mathlib.Nat.{suc_inj, mul-suc}
 use native.Mathlib.Numerals.{add-one}
 use native.Mathlib.Omega.{arith}
 use lib.Dec.{eqb}
+use borrow.Rule.Slice.PartMut.{put_mid}
 use Rattle.std.specs.List.{list_any}
+use Rattle.std.proofs.lemmas.Slice.{put_mid-paste}
 use Rattle.std.proofs.lemmas.Bool.Decides.{nat_tests}
 use lib.ListN.{length, get_or, take, drop, set, length-append}
 use lib.Seq.{paste, paste-suc, take_at, take_all, drop-cons, drop-drop, drop-length, drop-append-add, set_at, append_snoc}
@@ -44,6 +46,10 @@ place-next k d i at e = rw add-one (omega (arith, mul-suc d i))
 pub placed-paste : (o : List ℕ) (k : ℕ) (s : List ℕ) → placed o k s ≡ paste o k s (length s)
 unfolding placed
 placed-paste o k s = refl
+
+-- as std writes n values into a part of a list
+pub placed_part : (o : List ℕ) (k n : ℕ) (s written : List ℕ) → written ≡ s → n ≡ length s → put_mid k n o written ≡ placed o k s
+placed_part o k n s written same size = put_mid-paste k n o written s (length s) same (sym size) refl ∙ sym (placed-paste o k s)
 
 -- ---- pairs
 

@@ -38,6 +38,7 @@ pub fn run<const N: usize>(v: &[u64], k: usize, d: usize) -> [u64; N]
 }
 
 // The values of s stand in out from number k on.
+#[tactic(auto, using(crate::proofs::Copies::placed_part))]
 pub fn put_values(s: &[u64], out: &mut [u64], k: usize)
     requires { k + length s.now ≤ length out.old }
     ensures { out.new ≡ placed out.old k s.now }
